@@ -47,10 +47,13 @@ class Noted(engine.Transaction):
         super().read(key)
 
     def read_checks(self, assertions, changes, state):
+        # COMMIT checks all, and what it would read of those that are immediate then the statements have read
+        at_commit = assertions is self.definitions.assertions
         for a in assertions:
             self.by = a.name
+            read = super().read if at_commit and not self.deferred[a.name] else self.read
             for key in engine.check_keys(a, changes, state):
-                self.read(key)
+                read(key)
         self.by = None
 
     def change(self, table, rows, reply):

@@ -40,12 +40,11 @@ use Rattle.alone.specs.Alone.{Standing, Step, unless_violated, step_of_effect, v
 use Rattle.siread.proofs.Members.{in_head, in_tail, in_cases, not_in_nil}
 use Rattle.alone.proofs.Members.{in_left, in_right, in_either, in_map, from_map, in_filter, from_filter, filter_passes, in_flat, from_flat}
 use Rattle.alone.proofs.Stores.{same_there-refl}
-use Rattle.alone.proofs.Nets.{at_in, net_exact, net_all, alike_start}
+use Rattle.alone.proofs.Nets.{at_in, net_exact, net_all}
 use Rattle.alone.proofs.Orders.{at_member}
 use Rattle.alone.proofs.ReadOnly.{no_net_change}
-use Rattle.alone.proofs.Checks.{quiet_from, quiet_in}
 use Rattle.alone.proofs.KeyLists.{among_from}
-use Rattle.alone.proofs.Induction.{Together, ran_same}
+use Rattle.alone.proofs.Induction.{Together, at_begin, ran_same}
 
 -- what is made of rows one by one: each of it comes from a row, and is there whatever rows stand beside that one
 abbrev ComesByRow : {Y : Type 0} → (List RowValues → List Y) → Type 0
@@ -466,14 +465,8 @@ module _ (declared : Declared) (s : State) (sound : IsSound declared s) where
         ran_known rest step.after fit' (λ read m. each read (in_right step.reads more read m))
         (step_known statement now fit.fit fit'.fit (λ read m. each read (in_left step.reads more read m)) known)
 
-  begun_fit : IsFit (record { view = s; modes = initial_modes all })
-  begun_fit = record {
-    alike = alike_start lays s s;
-    fit = sound.fit;
-    fit' = sound.fit;
-    quiet = quiet_in lays (initial_modes all) s all (quiet_from lays all s sound.good);
-    quiet' = quiet_in lays (initial_modes all) s all (quiet_from lays all s sound.good);
-  }
+  fit_at_begin : IsFit (record { view = s; modes = initial_modes all })
+  fit_at_begin = (at_begin declared s s sound sound).1
 
   nothing_read : (form : Form) (read : LockKey) → Contains (check_keys lays s form (net_change lays s s)) read → ⊥
   nothing_read form read m = not_in_nil read (subst (λ changes. Contains (check_keys lays s form changes) read) (no_net_change lays s) m)
@@ -486,4 +479,4 @@ module _ (declared : Declared) (s : State) (sound : IsSound declared s) where
       let ones : List Assertion = immediate_ones now.modes all in
       among_from (checks_read lays now.view ones (net_change lays s now.view)) reads (λ read m.
       let found = from_flat (λ (a : Assertion). check_keys lays now.view a.form (net_change lays s now.view)) ones read m in
-      ran_known (Contains reads) trace (record { view = s; modes = initial_modes all }) begun_fit (λ key n. n) (λ a n key k. absurd (nothing_read a.form key k)) found.0 found.1.0 read found.1.1)
+      ran_known (Contains reads) trace (record { view = s; modes = initial_modes all }) fit_at_begin (λ key n. n) (λ a n key k. absurd (nothing_read a.form key k)) found.0 found.1.0 read found.1.1)

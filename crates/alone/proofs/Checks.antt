@@ -1,5 +1,5 @@
 -- A check finds the same violation on two states that moved alike and hold the same rows under the keys that it reads.
-use Rattle.std.proofs.Common.{◌≡◌, ℕ, Bool, true, false, cond, List, [], ◌∷◌, ◌++◌, Option, Some, None, refl, sym, ap, ◌∙◌, subst, inl, inr, map, filter}
+use Rattle.std.proofs.Common.{◌≡◌, ℕ, Bool, true, false, cond, not, List, [], ◌∷◌, ◌++◌, Option, Some, None, length, refl, sym, ap, ◌∙◌, subst, inl, inr, map, filter, arith}
 use Rattle.std.specs.Prelude.{flat_map}
 use Rattle.std.specs.Cmp.{IsTotalOrder}
 use Rattle.std.specs.Ordering.{is_gt, ordering_reverse}
@@ -29,7 +29,7 @@ use Rattle.siread.specs.Keys.{AlikeUnder}
 use Rattle.alone.specs.States.{row_in, IsState, IsPut, net_change}
 use Rattle.alone.specs.Checks.{keys_for, finding_keys, check_keys, refusal_at, violation, checks_read}
 use Rattle.std.specs.List.{zip}
-use Rattle.alone.specs.Modes.{Immediates, immediate_ones, is_named, modes_with}
+use Rattle.alone.specs.Modes.{Immediates, deferred_ones, immediate_ones, is_named, modes_with, opposite_modes}
 use Rattle.alone.proofs.Lists.{Each, each_at}
 use Rattle.alone.proofs.Members.{in_left, in_right, in_flat}
 use Rattle.alone.proofs.Nets.{Alike, net_same, net_exact, net_puts, put_net}
@@ -219,3 +219,23 @@ module _ (layouts : List Layout) where
       either : (b : Bool) → is_named names a.name ≡ b → cond (is_named names a.name) true m ≡ true → least_bad_of layouts a.form state ≡ None
       either true e g = p.0 e
       either false e g = h.0 (sym (ap (λ b. cond b true m) e) ∙ g)
+
+  -- of those that are deferred, where none of all is false
+  pub quiet_deferred_ones : (modes : Immediates) (state : State) (assertions : List Assertion) → AreQuiet state assertions → AreQuiet state (deferred_ones modes assertions)
+  quiet_deferred_ones modes state assertions h = quiet_ones (opposite_modes modes) state assertions (quiet_in (opposite_modes modes) state assertions h)
+
+  -- where none is false that is immediate, the first that is false is the first of those that are deferred
+  pub violation_deferred : (modes : Immediates) (state : State) (assertions : List Assertion) → length modes ≡ length assertions → AreQuietIn modes state assertions
+      → violation layouts assertions state ≡ violation layouts (deferred_ones modes assertions) state
+  violation_deferred [] state [] e h = refl
+  violation_deferred (m ∷ ms) state [] e h = refl
+  violation_deferred [] state (a ∷ rest) e h = absurd (omega (arith, e))
+  violation_deferred (m ∷ ms) state (a ∷ rest) e h = go m h.0 (violation_deferred ms state rest (omega (arith, e)) h.1)
+    where
+      others : List (Assertion × Bool)
+      others = filter (λ p. p.1) (zip rest (opposite_modes ms))
+
+      go : (b : Bool) → (b ≡ true → least_bad_of layouts a.form state ≡ None) → violation layouts rest state ≡ violation layouts (deferred_ones ms rest) state
+          → violation layouts (a ∷ rest) state ≡ violation layouts (map (λ p. p.0) (cond (not b) ((a, not b) ∷ others) others)) state
+      go true quiet more = ap (λ o. refusal_at a.name o (violation layouts rest state)) (quiet refl) ∙ more
+      go false quiet more = ap (refusal_at a.name (least_bad_of layouts a.form state)) more

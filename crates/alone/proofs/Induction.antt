@@ -1,7 +1,8 @@
 -- The agreement law, by induction over the trace, and that an accepted transaction leaves a sound state.
-use Rattle.std.proofs.Common.{◌≡◌, ◌≤◌, ℕ, Bool, true, false, List, [], ◌∷◌, ◌++◌, Option, Some, None, Result, Ok, Err, length, map, filter, refl, sym, ap, ◌∙◌, subst, inl, inr}
+use Rattle.std.proofs.Common.{◌≡◌, ◌≤◌, ℕ, Bool, true, false, not, List, [], ◌∷◌, ◌++◌, Option, Some, None, Result, Ok, Err, length, map, filter, refl, sym, ap, ◌∙◌, subst, inl, inr}
 use Rattle.std.specs.Prelude.{Contains, slice_index_or}
 use Rattle.std.proofs.lemmas.Bool.{cases_lt}
+use Rattle.std.proofs.lemmas.List.{length-map}
 use Rattle.value.specs.declared.refusals.Refusal.{Refusal}
 use Rattle.value.specs.declared.refusals.Refusal.TheVariants.{KeyUpdate}
 use Rattle.table.specs.declared.rows.Change.{Change}
@@ -27,7 +28,7 @@ use Rattle.alone.specs.declared.answers.Reply.{Reply}
 use Rattle.alone.specs.declared.answers.Reply.TheVariants.{Rows, ModesSet, Verdict as Truthful, Updated}
 use Rattle.alone.specs.Statements.{Effect, columns_of, place_in, found_rows, inserted_at, insert_effect, update_fault, renewal, update_effect, delete_effect, sets_key, selected_rows}
 use Rattle.assertion.specs.Declarations.{Declared, layouts_in}
-use Rattle.alone.specs.Modes.{Immediates, is_immediate, is_named, modes_with, assertion_of, initial_modes, immediate_ones, named_ones}
+use Rattle.alone.specs.Modes.{Immediates, is_immediate, is_named, modes_with, assertion_of, initial_modes, immediate_ones, deferred_ones, named_ones}
 use Rattle.alone.specs.Alone.{Standing, Step, refused_step, unless_violated, step_of_effect, verdict_step, modes_step, unless_key, key_name, step_alone, Run, ran, run_on, transaction, transaction_keys, IsSound}
 use Rattle.siread.proofs.Members.{in_head, in_tail}
 use Rattle.alone.proofs.Lists.{each_filter}
@@ -36,7 +37,8 @@ use Rattle.alone.proofs.Stores.{one_same, all_fit}
 use Rattle.alone.proofs.Nets.{Alike, alike_start, alike_under, alike_put, net_same, net_exact, put_net}
 use Rattle.alone.proofs.Forms.{verdict_same}
 use Rattle.alone.proofs.Wheres.{found_same}
-use Rattle.alone.proofs.Checks.{Under, under_left, under_right, AreQuiet, quiet_from, check_same, reads_same, AreQuietIn, quiet_of, quiet_ones, ones_quiet, quiet_in, quiet_deferred, quiet_immediate}
+use Rattle.alone.proofs.Checks.{Under, under_left, under_right, AreQuiet, quiet_from, check_same, reads_same, AreQuietIn, quiet_of, quiet_ones, ones_quiet, quiet_in, quiet_deferred, quiet_immediate, quiet_deferred_ones, violation_deferred}
+use Rattle.alone.proofs.Immediates.{set_long}
 use Rattle.alone.proofs.Effects.{IsDoable, delete_doable, update_doable, insert_doable, insert_nothing}
 
 reads_are : (fault : Option Refusal) (reply : Reply) (before after : Standing) (reads : List LockKey) → (unless_violated fault reply before after reads).reads ≡ reads
@@ -50,15 +52,16 @@ module _ (declared : Declared) (s o : State) (sound : IsSound declared s) (sound
   abbrev all : List Assertion
   all = declared.assertions
 
-  -- two transactions, begun on the two states, stand alike
+  -- two transactions, on the two states, stand alike
   pub record Together (modes : Immediates) (u v : State) : Type 0 where
     pub alike : Alike lays s o u v
     pub fit : IsState lays u
     pub fit' : IsState lays v
     pub quiet : AreQuietIn lays modes u all
     pub quiet' : AreQuietIn lays modes v all
+    pub long : length modes ≡ length all
 
-  abbrev AreTogether : Standing → Standing → Type 0
+  abbrev pub AreTogether : Standing → Standing → Type 0
   AreTogether one other = (one.modes ≡ other.modes) × Together one.modes one.view other.view
 
   -- two steps answer and read the same, and leave both alike
@@ -118,6 +121,7 @@ module _ (declared : Declared) (s o : State) (sound : IsSound declared s) (sound
             fit' = moves.fit';
             quiet = ones_quiet lays m u' all (quiet_from lays (immediate_ones m all) u' none);
             quiet' = ones_quiet lays m v' all (quiet_from lays (immediate_ones m all) v' none');
+            long = t.long;
           },
         ))
 
@@ -222,7 +226,14 @@ module _ (declared : Declared) (s o : State) (sound : IsSound declared s) (sound
       reads = refl;
       after = (
         refl,
-        record { alike = t.alike; fit = t.fit; fit' = t.fit'; quiet = quiet_deferred lays names m u all t.quiet; quiet' = quiet_deferred lays names m v all t.quiet' },
+        record {
+          alike = t.alike;
+          fit = t.fit;
+          fit' = t.fit';
+          quiet = quiet_deferred lays names m u all t.quiet;
+          quiet' = quiet_deferred lays names m v all t.quiet';
+          long = set_long names false all m t.long;
+        },
       );
     }
     modes_same names true under =
@@ -245,6 +256,7 @@ module _ (declared : Declared) (s o : State) (sound : IsSound declared s) (sound
             fit' = t.fit';
             quiet = quiet_immediate lays names m u all t.quiet (quiet_of lays (is_named names) u all (quiet_from lays (named_ones names all) u none));
             quiet' = quiet_immediate lays names m v all t.quiet' (quiet_of lays (is_named names) v all (quiet_from lays (named_ones names all) v none'));
+            long = set_long names true all m t.long;
           },
         ))
 
@@ -298,8 +310,8 @@ module _ (declared : Declared) (s o : State) (sound : IsSound declared s) (sound
         final = more.final;
       }
 
-  begun : AreTogether (record { view = s; modes = initial_modes all }) (record { view = o; modes = initial_modes all })
-  begun = (
+  pub at_begin : AreTogether (record { view = s; modes = initial_modes all }) (record { view = o; modes = initial_modes all })
+  at_begin = (
     refl,
     record {
       alike = alike_start lays s o;
@@ -307,6 +319,7 @@ module _ (declared : Declared) (s o : State) (sound : IsSound declared s) (sound
       fit' = sound'.fit;
       quiet = quiet_in lays (initial_modes all) s all (quiet_from lays all s sound.good);
       quiet' = quiet_in lays (initial_modes all) o all (quiet_from lays all o sound'.good);
+      long = length-map all (λ a. not a.attributes.initially_deferred);
     },
   )
 
@@ -314,26 +327,40 @@ module _ (declared : Declared) (s o : State) (sound : IsSound declared s) (sound
     abbrev end : State → State
     end w = (run_on declared trace w).final.view
 
+    -- what is deferred at COMMIT
+    abbrev late : List Assertion
+    late = deferred_ones (run_on declared trace s).final.modes all
+
+    abbrev checks : List LockKey
+    checks = checks_read lays (end s) late (net_change lays s (end s))
+
     run_alike : RunAlike (run_on declared trace s) (run_on declared trace o)
-    run_alike = ran_same trace (record { view = s; modes = initial_modes all }) (record { view = o; modes = initial_modes all }) begun
-        (under_left lays (run_on declared trace s).reads (checks_read lays (end s) all (net_change lays s (end s))) s o under)
+    run_alike = ran_same trace (record { view = s; modes = initial_modes all }) (record { view = o; modes = initial_modes all }) at_begin
+        (under_left lays (run_on declared trace s).reads checks s o under)
 
     net_alike : net_change lays s (end s) ≡ net_change lays o (end o)
     net_alike = net_same lays s o (end s) (end o) run_alike.final.1.alike
 
-    checked_alike : Under lays (checks_read lays (end s) all (net_change lays s (end s))) (end s) (end o)
+    checked_alike : Under lays checks (end s) (end o)
     checked_alike key c =
-        alike_under lays s o (end s) (end o) run_alike.final.1.alike key (under_right lays (run_on declared trace s).reads (checks_read lays (end s) all (net_change lays s (end s))) s o under key c)
+        alike_under lays s o (end s) (end o) run_alike.final.1.alike key (under_right lays (run_on declared trace s).reads checks s o under key c)
 
-    checks_alike : checks_read lays (end s) all (net_change lays s (end s)) ≡ checks_read lays (end o) all (net_change lays o (end o))
+    checks_alike : checks ≡ checks_read lays (end o) (deferred_ones (run_on declared trace o).final.modes all) (net_change lays o (end o))
     checks_alike =
         let ended = run_alike.final.1 in
-        reads_same lays all (net_change lays s (end s)) (end s) (end o) ended.fit ended.fit' checked_alike ∙ ap (checks_read lays (end o) all) net_alike
+        reads_same lays late (net_change lays s (end s)) (end s) (end o) ended.fit ended.fit' checked_alike
+        ∙ ap (checks_read lays (end o) late) net_alike
+        ∙ ap (λ (modes : Immediates). checks_read lays (end o) (deferred_ones modes all) (net_change lays o (end o))) run_alike.final.0
 
+    -- an assertion that is immediate is false at neither end
     refused_alike : violation lays all (end s) ≡ violation lays all (end o)
     refused_alike =
         let ended = run_alike.final.1 in
-        check_same lays all s (end s) o (end o) sound.fit ended.fit sound'.fit ended.fit' ended.alike (quiet_from lays all s sound.good) (quiet_from lays all o sound'.good) checked_alike
+        let modes : Immediates = (run_on declared trace s).final.modes in
+        violation_deferred lays modes (end s) all ended.long ended.quiet
+        ∙ check_same lays late s (end s) o (end o) sound.fit ended.fit sound'.fit ended.fit' ended.alike
+        (quiet_deferred_ones lays modes s all (quiet_from lays all s sound.good)) (quiet_deferred_ones lays modes o all (quiet_from lays all o sound'.good)) checked_alike
+        ∙ sym (violation_deferred lays modes (end o) all ended.long ended.quiet')
 
     pub outcome_same : transaction declared trace o ≡ transaction declared trace s
     outcome_same = sym (λ i. record { replies = run_alike.replies i; changes = net_alike i; refused = refused_alike i })

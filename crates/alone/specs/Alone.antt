@@ -9,7 +9,7 @@ use Rattle.assertion.specs.Meaning.{State, verdict_of}
 use Rattle.assertion.specs.Changes.{state_after_all}
 use Rattle.siread.specs.declared.keys.LockKey.{LockKey}
 use Rattle.siread.specs.declared.keys.LockKey.TheVariants.{Row as OneRow, Table as WholeTable}
-use Rattle.alone.specs.Modes.{Immediates, initial_modes, is_immediate, modes_with, immediate_ones, named_ones, assertion_of}
+use Rattle.alone.specs.Modes.{Immediates, initial_modes, is_immediate, modes_with, immediate_ones, deferred_ones, named_ones, assertion_of}
 use Rattle.alone.specs.States.{IsState, net_change}
 use Rattle.alone.specs.Reads.{filter_key}
 use Rattle.alone.specs.Checks.{tables_in, violation, checks_read}
@@ -147,11 +147,13 @@ transaction declared trace start = record {
   refused = violation (layouts_in declared) declared.assertions (run_on declared trace start).final.view;
 }
 
--- what it reads, the check of COMMIT included
+-- What it reads, the check of COMMIT included. That is of all assertions; but what it would read of those that are
+-- immediate then, the checks of the statements have read.
 abbrev pub transaction_keys : Declared → List ResolvedStatement → State → List LockKey
 transaction_keys declared trace start =
     (run_on declared trace start).reads
-    ++ checks_read (layouts_in declared) (run_on declared trace start).final.view declared.assertions
+    ++ checks_read (layouts_in declared) (run_on declared trace start).final.view
+    (deferred_ones (run_on declared trace start).final.modes declared.assertions)
     (net_change (layouts_in declared) start (run_on declared trace start).final.view)
 
 -- the states of which the theorems speak: tables in key order, on which no assertion is false

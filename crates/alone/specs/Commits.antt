@@ -25,10 +25,14 @@ overlap a b = not (a.number == b.number) && (nat_lt b.snapshot a.number && nat_l
 unfoldable pub conflicts_to : Record → Record → Bool
 conflicts_to reader writer = overlap reader writer && touch_any writer.changes reader.reads
 
--- The last number that may stand before a commit: its snapshot where it is read only, since it stands right behind
--- that, else its own.
+-- The last number that may stand before a commit of this number and snapshot: its snapshot where it is read only, since
+-- it stands right behind that, else its own.
+abbrev pub reach_of : (number snapshot : ℕ) → Bool → ℕ
+reach_of number snapshot read_only = if read_only then snapshot else number
+
+-- how far a commit reaches
 abbrev pub reach : Record → ℕ
-reach commit = if commit.read_only then commit.snapshot else commit.number
+reach commit = reach_of commit.number commit.snapshot commit.read_only
 
 -- the reader conflicts to the pivot, the pivot to the writer, and the writer committed first
 pub record IsDangerous (reader pivot writer : Record) : Type 0 where

@@ -1,9 +1,9 @@
 -- What the marks of assertions say: of each whether it is immediate.
-use Rattle.std.specs.Prelude.{true, replicate}
+use Rattle.std.specs.Prelude.{replicate}
 use Rattle.alone.specs.declared.modes.Marks.{Marks}
-use Rattle.alone.specs.declared.modes.Marks.TheVariants.{Each, All}
+use Rattle.alone.specs.declared.modes.Marks.TheVariants.{Each, Same}
 use Rattle.alone.specs.Modes.{Immediates}
 
 abbrev pub immediates_in : Marks → Immediates
 immediates_in (Each marks) = marks.items
-immediates_in (All count) = replicate count true
+immediates_in (Same immediate count) = replicate count immediate

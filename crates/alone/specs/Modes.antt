@@ -45,6 +45,14 @@ modes_with names immediate assertions modes = map (mode_with names immediate) (z
 abbrev pub immediate_ones : Immediates → List Assertion → List Assertion
 immediate_ones modes assertions = map (λ p. p.0) (filter (λ p. p.1) (zip assertions modes))
 
+-- of each assertion the other mode
+abbrev pub opposite_modes : Immediates → Immediates
+opposite_modes modes = map not modes
+
+-- the assertions that are deferred
+abbrev pub deferred_ones : Immediates → List Assertion → List Assertion
+deferred_ones modes assertions = immediate_ones (opposite_modes modes) assertions
+
 -- the assertions of some names
 abbrev pub named_ones : List (List ℕ) → List Assertion → List Assertion
 named_ones names assertions = filter (λ a. is_named names a.name) assertions

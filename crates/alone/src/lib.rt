@@ -80,5 +80,5 @@ pub use laws::{
 };
 pub use modes::Modes;
 pub use names::settable_names;
-pub use records::Record;
+pub use records::{Record, reach_of};
 pub use statements::ResolvedStatement;

@@ -1,7 +1,8 @@
 //! The mode of each assertion.
 
 ghost use Rattle.std.specs.Prelude.{◌≡◌, ◌<◌, true, length, slice_index_or, IfOk};
-ghost use Rattle.alone.specs.Modes.{all_immediate, initial_modes, is_immediate, mode_of, mode_with, modes_with, named_immediate};
+ghost use Rattle.alone.specs.Modes.{all_immediate, initial_modes, is_immediate, mode_of, mode_with, modes_with, named_immediate, opposite_modes};
+ghost use Rattle.std.specs.List.{list_any};
 
 use crate::names::is_named;
 use assertion::Assertion;
@@ -21,8 +22,9 @@ pub struct Modes {
 enum Marks {
     /// Of each assertion whether it is.
     Each(Vec<bool>),
-    /// All of so many are.
-    All(usize),
+    /// The same of all of so many: most have no assertion that is deferred, and then BEGIN takes no memory for the
+    /// modes, and COMMIT none.
+    Same { immediate: bool, count: usize },
 }
 
 impl Model for Modes {
@@ -35,10 +37,13 @@ impl Model for Modes {
 }
 
 impl Modes {
-    /// The modes in which a transaction begins.
+    /// The modes in which a transaction begins. Where no assertion is initially deferred, it takes no memory.
     pub fn initial(alloc: Global, assertions: &[Assertion]) -> Result<Modes, AllocError>
         ensures { IfOk result (λ modes. modes ≡ initial_modes assertions.now) }
     {
+        if !is_any_initially_deferred(assertions) {
+            return Ok(Modes::all_immediate(assertions));
+        }
         let mut immediate = Vec::with_capacity(alloc, assertions.len())?;
         for assertion in assertions {
             immediate.push(!assertion.attributes.initially_deferred)?;
@@ -53,8 +58,25 @@ impl Modes {
         ensures { result ≡ all_immediate assertions.now }
     {
         Modes {
-            marks: Marks::All(assertions.len()),
+            marks: Marks::Same {
+                immediate: true,
+                count: assertions.len(),
+            },
         }
+    }
+
+    /// Of each assertion the other mode, so that those are immediate that are deferred.
+    pub fn opposite(&self, alloc: Global) -> Result<Modes, AllocError>
+        ensures { IfOk result (λ modes. modes ≡ opposite_modes self.now) }
+    {
+        let marks = match &self.marks {
+            Marks::Each(marks) => Marks::Each(opposite_marks(alloc, marks.as_slice())?),
+            Marks::Same { immediate, count } => Marks::Same {
+                immediate: !*immediate,
+                count: *count,
+            },
+        };
+        Ok(Modes { marks })
     }
 
     /// The assertions of these names are immediate and no others, as SET CONSTRAINTS .. IMMEDIATE checks them.
@@ -101,7 +123,7 @@ impl Modes {
     {
         match &self.marks {
             Marks::Each(marks) => marks.len(),
-            Marks::All(count) => *count,
+            Marks::Same { count, .. } => *count,
         }
     }
 
@@ -112,7 +134,7 @@ impl Modes {
     {
         match &self.marks {
             Marks::Each(marks) => marks[place],
-            Marks::All(_) => true,
+            Marks::Same { immediate, .. } => *immediate,
         }
     }
 
@@ -127,6 +149,29 @@ impl Modes {
             Mode::Deferred
         }
     }
+}
+
+/// Whether one of the assertions is initially deferred.
+fn is_any_initially_deferred(assertions: &[Assertion]) -> bool
+    ensures { result ≡ list_any (λ a. a.attributes.initially_deferred) assertions.now }
+{
+    for assertion in assertions {
+        if assertion.attributes.initially_deferred {
+            return true;
+        }
+    }
+    false
+}
+
+/// Of each mark the other.
+fn opposite_marks(alloc: Global, marks: &[bool]) -> Result<Vec<bool>, AllocError>
+    ensures { IfOk result (λ opposite. opposite.items ≡ opposite_modes marks.now) }
+{
+    let mut opposite = Vec::with_capacity(alloc, marks.len())?;
+    for mark in marks {
+        opposite.push(!*mark)?;
+    }
+    Ok(opposite)
 }
 
 /// Whether an assertion is immediate after the modes of some names are set.

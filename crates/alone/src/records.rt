@@ -1,7 +1,7 @@
 //! Committed transactions.
 
 ghost use Rattle.std.specs.Prelude.{◌≡◌};
-ghost use Rattle.alone.specs.Commits.{reach};
+ghost use Rattle.alone.specs.Commits.{reach, reach_of};
 
 use crate::statements::ResolvedStatement;
 use siread::LockKey;
@@ -30,15 +30,18 @@ pub struct Record {
 }
 
 impl Record {
-    /// The last number that may stand before it in the serial order: that of its snapshot where it is read only, else
-    /// its own.
+    /// How far it reaches.
     pub fn reach(&self) -> u64
         ensures { result ≡ reach self.now }
     {
-        if self.read_only {
-            self.snapshot
-        } else {
-            self.number
-        }
+        reach_of(self.number, self.snapshot, self.read_only)
     }
+}
+
+/// The last number that may stand in the serial order before a commit of this number and snapshot: that of its
+/// snapshot where it is read only, else its own.
+pub fn reach_of(number: u64, snapshot: u64, read_only: bool) -> u64
+    ensures { result ≡ reach_of number snapshot read_only }
+{
+    if read_only { snapshot } else { number }
 }

@@ -52,12 +52,12 @@
 //! A transaction changes rows, some of them twice, and some back to what they held. What counts at its COMMIT is its
 //! *net change*: the rows in which its own view and the tables of its begin differ, by table and key, each with what
 //! stood there and what is to stand there. To compare two whole states would cost the tables; so a transaction notes
-//! the places that it has touched ([`TouchedPlaces`]), and [`net_change`] looks at each once, by its key, in both
-//! views.
+//! the rows that it touches ([`TouchedRows`]): at the first change of a place what stood there, and at each what is to
+//! stand there. Room is made before a statement is taken, and then noting its changes cannot fail.
 //!
-//! What the layer above may rest on: where two views can differ at the noted places alone (`specs/Nets`), what is
-//! answered is the net change of the definition (`net_change` in `alone/specs/States`), which compares the states
-//! whole. Only memory can fail.
+//! What the layer above may rest on: where two states differ as is noted (`specs/Nets`), what is answered is the net
+//! change of the definition (`net_change` in `alone/specs/States`), which compares the states whole. Only memory can
+//! fail.
 #![tactic(auto)]
 
 mod checks;
@@ -66,7 +66,6 @@ mod filtered;
 mod filters;
 mod insertions;
 mod lookups;
-mod net;
 mod real;
 mod selections;
 mod settings;
@@ -78,8 +77,7 @@ pub use checks::{checks_read, push_check, tables_read};
 pub use deletions::removals;
 pub use filters::TableFilter;
 pub use insertions::insertion;
-pub use net::{is_same_there, net_change, row_in};
 pub use real::real_changes;
 pub use selections::selected_rows;
-pub use touched::TouchedPlaces;
+pub use touched::{RowsThere, TouchedRows};
 pub use updates::renewals;

@@ -17,7 +17,7 @@ ghost use Rattle.commit.specs.Safe.{IsSafeReader};
 
 use crate::decisions::{Decision, refuse_for_triple, refuse_for_writer};
 use crate::prepared::{Prepared, give_up};
-use alone::{Record, RefusedCommit, commits_have_an_order, replay_answers_again};
+use alone::{Record, RefusedCommit, commits_have_an_order, reach_of, replay_answers_again};
 use conflict::{Candidate, Judgment, Live, is_safe, judge, put_in_order};
 use delta::View;
 use siread::LockTable;
@@ -665,18 +665,8 @@ fn may_another_ask(live: &Live, number: u64, closed: &ClosedTransaction) -> bool
         ≡ may_another_ask closed.now.begin_number (reach_with number closed.now) live.now.snapshots }
 {
     let txn = closed.txn();
-    live.may_another_ask(txn.begin_number(), reach_with(number, txn))
-}
-
-/// How far a transaction reaches as the commit with a number.
-fn reach_with(number: u64, txn: &Txn) -> u64
-    ensures { result ≡ reach_with number txn.now }
-{
-    if txn.is_read_only() {
-        txn.snapshot()
-    } else {
-        number
-    }
+    let reach = reach_of(number, txn.snapshot(), txn.is_read_only());
+    live.may_another_ask(txn.begin_number(), reach)
 }
 
 /// The record of a transaction that is committed with this number, in a session of this name.

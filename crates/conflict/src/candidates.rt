@@ -4,6 +4,7 @@ ghost use Rattle.std.specs.Prelude.{◌≡◌};
 ghost use Rattle.alone.specs.Commits.{reach};
 ghost use Rattle.conflict.specs.Candidates.{record_of};
 
+use alone::reach_of;
 use siread::LockKey;
 use table::Change;
 
@@ -23,14 +24,10 @@ pub struct Candidate<'a> {
 }
 
 impl Candidate<'_> {
-    /// The last number that may stand before it: that of its snapshot where it is read only, else its own.
+    /// How far it reaches as the commit of its number.
     pub fn reach(&self) -> u64
         ensures { result ≡ reach (record_of self.now) }
     {
-        if self.read_only {
-            self.snapshot
-        } else {
-            self.number
-        }
+        reach_of(self.number, self.snapshot, self.read_only)
     }
 }

@@ -1,6 +1,6 @@
 //! The snapshots of open transactions.
 
-ghost use Rattle.std.specs.Prelude.{◌≡◌, true, Contains, IfOk, OnErr, OnOk};
+ghost use Rattle.std.specs.Prelude.{◌≡◌, true, Contains, OnErr, OnOk};
 ghost use Rattle.conflict.specs.Held.{is_held};
 ghost use Rattle.conflict.specs.Live.{least_with, least_writing, may_another_ask, none_live, with_begin, without, writers_hold};
 

@@ -238,7 +238,8 @@ fn follow_modes_in(
     Ok(())
 }
 
-/// Takes the transaction to COMMIT, and notes what the check of all assertions read, and its net change.
+/// Takes the transaction to COMMIT, and notes what the check of the assertions read that are deferred then, and its net
+/// change.
 fn follow_commit(
     alloc: Global,
     commits: u64,
@@ -264,7 +265,7 @@ fn follow_commit(
             transaction.number = commits.saturating_add(1);
         }
     }
-    let noted = note_closed(alloc, &closed, event, happening, transaction);
+    let noted = note_closed(alloc, &closed, &mirror.modes, event, happening, transaction);
     drop(closed.into_parts());
     noted
 }
@@ -272,14 +273,22 @@ fn follow_commit(
 fn note_closed(
     alloc: Global,
     closed: &ClosedTransaction,
+    modes: &Modes,
     event: usize,
     happening: &mut Happening,
     transaction: &mut Transaction,
 ) -> Result<(), AllocError> {
     let own = closed.txn().own();
-    let meant = Modes::all_immediate(own.assertions());
+    let deferred = modes.opposite(alloc)?;
     let changes = closed.changes();
-    push_checks(alloc, &mut transaction.reads, own, &meant, changes, event)?;
+    push_checks(
+        alloc,
+        &mut transaction.reads,
+        own,
+        &deferred,
+        changes,
+        event,
+    )?;
     transaction.changes = copy_changes(alloc, changes)?;
     let view = own.copy()?;
     note_view(happening, view);

@@ -1,5 +1,6 @@
 //! What a statement does to the rows of a view, whatever its assertions say of it.
 
+ghost use Rattle.std.specs.Prelude.{IfOk};
 ghost use Rattle.assertion.specs.Declarations.{layouts_in};
 ghost use Rattle.txn.specs.Effects.{ArePutIn};
 ghost use Rattle.txn.specs.Runnable.{IsRunnable};
@@ -11,8 +12,10 @@ use std::alloc::{AllocError, Global};
 use syntax::Statement;
 use table::Change;
 use txn::{
-    Effect, delete_effect, insert_effect, recall_order, resolve, unless_memory, update_effect,
+    Effect, delete_effect, filter_on, insert_effect, recall_order, resolve, unless_memory,
+    update_effect,
 };
+use value::Refusal;
 
 /// The rows that a statement changes, and the view with these changes.
 #[derive(Drop)]
@@ -41,25 +44,38 @@ fn try_resolved(
     requires runnable { IsRunnable own.now.declared statement.now }
 {
     match statement {
-        ResolvedStatement::Insert(new) => match insert_effect(alloc, own, new) {
-            Ok(effect) => put_in(own, effect),
-            Err(refusal) => {
-                unless_memory(refusal)?;
-                Ok(None)
-            }
-        },
-        ResolvedStatement::Update(update) => match update_effect(alloc, own, update) {
-            Ok(effect) => put_in(own, effect),
-            Err(refusal) => {
-                unless_memory(refusal)?;
-                Ok(None)
-            }
-        },
+        ResolvedStatement::Insert(new) => put_in_unless_refused(
+            own,
+            insert_effect(alloc, own, new),
+        ),
+        ResolvedStatement::Update(update) => {
+            let filter = filter_on(own, update.table, &update.filter)?;
+            let made = update_effect(alloc, own, update.sets.as_slice(), &filter);
+            put_in_unless_refused(own, made)
+        }
         ResolvedStatement::Delete(delete) => {
-            let effect = delete_effect(alloc, own, delete)?;
+            let filter = filter_on(own, delete.table, &delete.filter)?;
+            let effect = delete_effect(alloc, own, &filter)?;
             put_in(own, effect)
         }
         _ => Ok(None),
+    }
+}
+
+/// The view with the changes of an effect, unless it was refused.
+fn put_in_unless_refused(
+    own: &View,
+    made: Result<Effect, Refusal>,
+) -> Result<Option<Trial>, AllocError>
+    requires changes { IfOk made (λ effect.
+        ArePutIn (layouts_in own.now.declared) effect.changes.items own.now.state) }
+{
+    match made {
+        Ok(effect) => put_in(own, effect),
+        Err(refusal) => {
+            unless_memory(refusal)?;
+            Ok(None)
+        }
     }
 }
 

@@ -14,7 +14,7 @@ use Rattle.txn.specs.contracts.closed.ClosedTransaction as ClosedTransaction
 use Rattle.value.proofs.texts.Text.TheSendSync as Text
 use Rattle.siread.proofs.keys.LockKey.TheSendSync as LockKey
 use Rattle.siread.proofs.locks.LockTable.TheSendSync as LockTable
-use Rattle.changes.proofs.touched.TouchedPlaces.TheSendSync as Touched
+use Rattle.changes.proofs.touched.TouchedRows.TheSendSync as Touched
 use Rattle.boxcar.proofs.slot.OnceSlot.TheSendSync as OnceSlot
 use Rattle.boxcar.proofs.table.Placed.TheSendSync as Placed
 use Rattle.boxcar.proofs.tag.Tag.TheSendSync as Tag

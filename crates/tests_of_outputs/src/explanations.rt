@@ -92,10 +92,10 @@ fn a_dangerous_triple(rt: HostRuntime) -> Result<(), Fail> {
          \x20 pivot: this transaction (session C, events 2 to 6, snapshot 0)\n\
          \x20 writer: commit 1 (session B, events 1 to 5, snapshot 0)\n\
          \x20 the reader read what the pivot changed and neither saw the other, by keys: 1\n\
-         \x20   rows of DUTY with SHIFT = 9, read by the check of COVERED at event 3 and 5; \
+         \x20   rows of DUTY with SHIFT = 9, read by the check of COVERED at event 3; \
          changed was row 'CAROL' of DUTY from ('CAROL', 9, 1) to ('CAROL', 9, 0)\n\
          \x20 the pivot read what the writer changed and neither saw the other, by keys: 1\n\
-         \x20   rows of DUTY with SHIFT = 9, read by the check of COVERED at event 4 and 6; \
+         \x20   rows of DUTY with SHIFT = 9, read by the check of COVERED at event 4; \
          changed was row 'BOB' of DUTY from ('BOB', 9, 1) to ('BOB', 9, 0)\n\n",
     )
 }

@@ -3,7 +3,7 @@
 ghost use Rattle.std.specs.Prelude.{◌≡◌, ◌<◌, ◌+◌, [], true, is_none, length, reverse, vec_capacity, vec_len, IfOk, OnOk};
 ghost use Rattle.conflict.specs.Judged.{IsJudgmentOf};
 
-use alone::{Record, safe_snapshots_have_no_danger};
+use alone::{Record, reach_of, safe_snapshots_have_no_danger};
 use conflict::{Candidate, Danger, Judgment, is_safe, judge, put_in_order};
 use siread::{LockKey, LockTable, Place};
 use sqlite_items::Items;
@@ -337,4 +337,5 @@ fn candidate(read_only: bool) -> Candidate<'static> {
 fn read_only_ones_reach_their_snapshot(rt: HostRuntime) {
     assert_eq!(rt; candidate(true).reach(), 2);
     assert_eq!(rt; candidate(false).reach(), 4);
+    assert_eq!(rt; reach_of(4, 2, true), 2);
 }

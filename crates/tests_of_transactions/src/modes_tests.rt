@@ -69,8 +69,9 @@ fn modes_word(modes: &Modes) -> &'static str {
     }
     match (modes.of(0), modes.of(1)) {
         (Mode::Deferred, Mode::Immediate) => "COVER is deferred",
+        (Mode::Immediate, Mode::Deferred) => "FUNDS is deferred",
         (Mode::Immediate, Mode::Immediate) => "immediate",
-        _ => "other",
+        (Mode::Deferred, Mode::Deferred) => "deferred",
     }
 }
 
@@ -113,6 +114,25 @@ fn tests_names<R: Abort>(rt: &R, alloc: Global, assertions: &[Assertion]) -> Res
     ] {
         assert_eq!(rt; taken_by_name(alloc, assertions, name)?, want);
     }
+    Ok(())
+}
+
+/// Words for the opposites of the modes in which a transaction begins, and of those of COMMIT.
+fn opposites(
+    alloc: Global,
+    assertions: &[Assertion],
+) -> Result<(&'static str, &'static str), AllocError> {
+    let at_begin = Modes::initial(alloc, assertions)?.opposite(alloc)?;
+    let at_commit = Modes::all_immediate(assertions).opposite(alloc)?;
+    Ok((modes_word(&at_begin), modes_word(&at_commit)))
+}
+
+#[test]
+fn modes_have_opposites(rt: HostRuntime) -> Result<(), Fail> {
+    let view = view_of(rt.alloc(), ASSERTIONS)?;
+    let found = opposites(rt.alloc(), view.assertions());
+    drop(view);
+    assert_eq!(rt; found?, ("FUNDS is deferred", "deferred"));
     Ok(())
 }
 

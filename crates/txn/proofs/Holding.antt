@@ -1,6 +1,6 @@
 -- A statement more, and what is held is again what the trace leaves.
-use Rattle.std.proofs.Common.{◌≡◌, true, List, [], ◌∷◌, ◌++◌, Option, Some, None, Result, Ok, Err, map, length, refl, sym, ap, ◌∙◌, subst, append-nil}
-use Rattle.std.specs.Prelude.{Contains, unwrap_or, IfOk, IfErr, ◌≢◌}
+use Rattle.std.proofs.Common.{◌≡◌, true, List, [], ◌∷◌, ◌++◌, Option, Some, None, Result, Ok, Err, length, refl, sym, ap, ◌∙◌, subst, append-nil}
+use Rattle.std.specs.Prelude.{unwrap_or, IfOk, IfErr, ◌≢◌}
 use Rattle.value.specs.declared.refusals.Refusal.{Refusal}
 use Rattle.value.specs.declared.refusals.Refusal.TheVariants.{NoMemory}
 use Rattle.value.specs.Ordered.{HoldsOf}
@@ -9,19 +9,19 @@ use Rattle.assertion.specs.Declarations.{Declared, layouts_in}
 use Rattle.assertion.specs.Meaning.{State}
 use Rattle.siread.specs.declared.keys.LockKey.{LockKey}
 use Rattle.siread.specs.declared.keys.Place.{Place}
-use Rattle.siread.specs.Keys.{place_of}
+use Rattle.table.specs.Rows.{Layout}
+use Rattle.alone.specs.States.{row_in, IsState}
 use Rattle.alone.specs.Modes.{Immediates}
 use Rattle.alone.specs.declared.statements.ResolvedStatement.{ResolvedStatement}
 use Rattle.alone.proofs.ReadOnly.{one_more}
 use Rattle.alone.specs.Alone.{Run, Standing, Step, joined_runs, ran, step_alone}
 use Rattle.alone.specs.Resolve.{is_read_only}
 use Rattle.delta.specs.Views.{ViewState}
-use Rattle.changes.specs.Nets.{DifferAt}
+use Rattle.changes.specs.Nets.{AreChangesBetween, AreNoted, IsNoted, Noted, noted_at}
 use Rattle.txn.specs.declared.steps.StepResult.{StepResult}
 use Rattle.txn.specs.Held.{IsHeld}
 use Rattle.txn.specs.Steps.{IsDone, IsOf, left_by, rows_left, standing_with}
 use Rattle.txn.specs.Transactions.{OpenTransaction, run_of, standing_of, step_of, with_statement}
-use Rattle.txn.proofs.Putting.{differ_both}
 
 -- runs may be run in two parts
 abbrev pub InParts : Type 0
@@ -30,7 +30,7 @@ InParts = (declared : Declared) (start : State) (now : Standing) (first rest : L
 
 module _ (t : OpenTransaction) (own : ViewState) (modes : Immediates) (s : ResolvedStatement) where
   -- the step on what is held is that of the transaction
-  pub step_is : {touched : List Place} {reads : List LockKey} → IsHeld t own modes touched reads → step_alone own.declared t.start (standing_with own modes) s ≡ step_of t s
+  pub step_is : {touched : Noted} {reads : List LockKey} → IsHeld t own modes touched reads → step_alone own.declared t.start (standing_with own modes) s ≡ step_of t s
   step_is h = λ i. step_alone (h.own_is i).declared t.start (record { view = (h.own_is i).state; modes = h.modes_are i }) s
 
   module _ (parts : InParts) where
@@ -57,15 +57,34 @@ long_left : (modes : Immediates) (new : Option Immediates) (declared : Declared)
 long_left modes None declared e h = e
 long_left modes (Some after) declared e h = h
 
-pub held_after : (t : OpenTransaction) (own : ViewState) (modes : Immediates) (touched more : List Place) (reads all : List LockKey) (s : ResolvedStatement) (d : StepResult) → InParts
+-- what is noted is noted still where there is more room
+pub noted_room : (layouts : List Layout) (start now : State) (old new : Noted) → ((place : Place) → noted_at new place ≡ noted_at old place)
+    → AreNoted layouts start now old → AreNoted layouts start now new
+noted_room layouts start now old new same h = record {
+  each = λ place. subst (λ o. IsNoted o (row_in layouts start place) (row_in layouts now place)) (sym (same place)) (h.each place);
+}
+
+-- the step that was done is that from the start
+pub done_from : (t : OpenTransaction) (own : ViewState) (modes : Immediates) (touched : Noted) (reads : List LockKey) (s : ResolvedStatement) (d : StepResult) → IsHeld t own modes touched reads
+    → IsState (layouts_in t.declared) t.start
+    → ((start : State) → IsState (layouts_in own.declared) start → AreNoted (layouts_in own.declared) start own.state touched
+    → IsDone (standing_with own modes) (step_alone own.declared start (standing_with own modes) s) d)
+    → IsDone (standing_with own modes) (step_alone own.declared t.start (standing_with own modes) s) d
+done_from t own modes touched reads s d h fit done =
+    let same : t.declared ≡ own.declared = sym (ap (λ (o : ViewState). o.declared) h.own_is) in
+    done t.start (subst (λ (declared : Declared). IsState (layouts_in declared) t.start) same fit)
+    (subst (λ (declared : Declared). AreNoted (layouts_in declared) t.start own.state touched) same h.noted)
+
+pub held_after : (t : OpenTransaction) (own : ViewState) (modes : Immediates) (touched room more : Noted) (reads all : List LockKey) (s : ResolvedStatement) (d : StepResult) → InParts
     → IsHeld t own modes touched reads
     → IsDone (standing_with own modes) (step_alone own.declared t.start (standing_with own modes) s) d → IsOf own.declared d
-    → DifferAt (layouts_in own.declared) own.state (left_by (standing_with own modes) d).view (map place_of d.changes.items)
-    → ((place : Place) → Contains touched place → Contains more place) → ((place : Place) → Contains (map place_of d.changes.items) place → Contains more place)
+    → AreChangesBetween (layouts_in own.declared) own.state (left_by (standing_with own modes) d).view d.changes.items
+    → ((place : Place) → noted_at room place ≡ noted_at touched place)
+    → ((layouts : List Layout) (start before after : State) → AreNoted layouts start before room → AreChangesBetween layouts before after d.changes.items → AreNoted layouts start after more)
     → all ≡ reads ++ d.reads.items
     → (t.read_only ≡ true → is_read_only s ≡ true)
     → IsHeld (with_statement t s) (unwrap_or d.view own) (unwrap_or d.modes modes) more all
-held_after t own modes touched more reads all s d parts h done of differ kept added read may =
+held_after t own modes touched room more reads all s d parts h done of between same put read may =
     let step : step_alone own.declared t.start (standing_with own modes) s ≡ step_of t s = step_is t own modes s h in
     let after : standing_of (with_statement t s) ≡ left_by (standing_with own modes) d = final_with t own modes s parts ∙ sym (ap (λ (p : Step). p.after) step) ∙ done.after in
     let declared : (unwrap_or d.view own).declared ≡ t.declared = declared_left own d.view of.view ∙ ap (λ (o : ViewState). o.declared) h.own_is in
@@ -74,9 +93,9 @@ held_after t own modes touched more reads all s d parts h done of differ kept ad
       own_is = λ i. record { declared = declared i; state = state i };
       modes_are = sym (ap (λ (p : Standing). p.modes) after);
       long = long_left modes d.modes t.declared h.long (subst (λ (declared : Declared). HoldsOf (λ (after : Immediates). length after ≡ length declared.assertions) d.modes) (ap (λ (o : ViewState). o.declared) h.own_is) of.modes);
-      differ = differ_both (layouts_in t.declared) t.start own.state (unwrap_or d.view own).state touched (map place_of d.changes.items) more kept added h.differ
-          (subst (λ u. DifferAt (layouts_in t.declared) own.state u (map place_of d.changes.items)) (sym (view_left own d.view))
-          (subst (λ (declared : Declared). DifferAt (layouts_in declared) own.state (rows_left own.state d.view) (map place_of d.changes.items)) (ap (λ (o : ViewState). o.declared) h.own_is) differ));
+      noted = subst (λ (state : State). AreNoted (layouts_in t.declared) t.start state more) (sym (view_left own d.view))
+          (put (layouts_in t.declared) t.start own.state (rows_left own.state d.view) (noted_room (layouts_in t.declared) t.start own.state touched room same h.noted)
+          (subst (λ (declared : Declared). AreChangesBetween (layouts_in declared) own.state (rows_left own.state d.view) d.changes.items) (ap (λ (o : ViewState). o.declared) h.own_is) between));
       reads_are = read ∙ ap (λ ks. ks ++ d.reads.items) h.reads_are ∙ ap (λ ks. (run_of t).reads ++ ks) (sym done.reads ∙ ap (λ (p : Step). p.reads) step) ∙ sym (reads_with t own modes s parts);
       no_changes = λ only. one_more t.trace s (h.no_changes only) (may only);
     }

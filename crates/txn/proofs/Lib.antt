@@ -1,6 +1,5 @@
 mod Checking
 mod Holding
-mod Modes
 mod Naming
 mod Putting
 pub mod Fits

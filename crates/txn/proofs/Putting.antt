@@ -1,6 +1,6 @@
 -- What changes that are put in leave of a state.
-use Rattle.std.proofs.Common.{◌≡◌, ℕ, true, List, ◌∷◌, Option, Some, None, Ok, map, refl, sym, ap, ◌∙◌, subst, inl, inr}
-use Rattle.std.specs.Prelude.{Contains, unwrap_or}
+use Rattle.std.proofs.Common.{◌≡◌, ℕ, true, List, [], ◌∷◌, Option, Some, None, Ok, map, refl, sym, ap, ◌∙◌, subst, inl, inr}
+use Rattle.std.specs.Prelude.{unwrap_or}
 use Rattle.value.specs.declared.refusals.Refusal.{Refusal}
 use Rattle.table.specs.declared.rows.Change.{Change}
 use Rattle.table.specs.Rows.{Layout}
@@ -9,7 +9,6 @@ use Rattle.assertion.specs.Declarations.{layouts_in}
 use Rattle.assertion.specs.Meaning.{State}
 use Rattle.assertion.specs.Changes.{state_after_all}
 use Rattle.siread.specs.declared.keys.LockKey.{LockKey}
-use Rattle.siread.specs.declared.keys.Place.{Place}
 use Rattle.siread.specs.Keys.{place_of}
 use Rattle.alone.specs.Modes.{Immediates, immediate_ones, modes_with, named_ones}
 use Rattle.alone.specs.declared.answers.Reply.{Reply}
@@ -19,9 +18,10 @@ use Rattle.alone.specs.Checks.{checks_read, violation}
 use Rattle.alone.specs.States.{change_between, net_change, IsState}
 use Rattle.alone.specs.Statements.{Effect}
 use Rattle.alone.proofs.Members.{in_map}
-use Rattle.alone.proofs.Nets.{net_all}
+use Rattle.alone.proofs.Nets.{net_all, net_exact}
+use Rattle.siread.proofs.Members.{not_in_nil}
 use Rattle.delta.specs.Views.{ViewState}
-use Rattle.changes.specs.Nets.{DifferAt}
+use Rattle.changes.specs.Nets.{AreChangesBetween, DifferAt}
 use Rattle.txn.specs.declared.steps.StepResult.{StepResult}
 use Rattle.txn.specs.Steps.{ArePut, IsDone, IsLeft, left_by, rows_left, standing_with}
 
@@ -35,19 +35,13 @@ module _ (layouts : List Layout) where
     ];
   }
 
-  -- where nothing changed they differ nowhere
-  pub differ_nowhere : (state : State) (places : List Place) → DifferAt layouts state state places
-  differ_nowhere state places = record { elsewhere = λ place. inl refl }
+  -- and so it is the changes between them
+  pub between_net : (before after : State) → IsState layouts before → IsState layouts after → AreChangesBetween layouts before after (net_change layouts before after)
+  between_net before after f g = record { exact = λ change m. (net_exact layouts before after change m).0; differ = differ_net before after f g }
 
-  -- one after the other
-  pub differ_both : (first second third : State) (here there all : List Place) → ((place : Place) → Contains here place → Contains all place) → ((place : Place) → Contains there place → Contains all place)
-      → DifferAt layouts first second here → DifferAt layouts second third there → DifferAt layouts first third all
-  differ_both first second third here there all old new d e = record {
-    elsewhere = λ place. elim (d.elsewhere place) [
-      | inr at ↦ inr (old place at)
-      | inl same ↦ elim (e.elsewhere place) [ inr at ↦ inr (new place at) | inl still ↦ inl (same ∙ still) ]
-    ];
-  }
+  -- where nothing changed there are none
+  pub between_none : (state : State) → AreChangesBetween layouts state state []
+  between_none state = record { exact = λ change m. absurd (not_in_nil change m); differ = record { elsewhere = λ place. inl refl } }
 
 -- what is left where nothing has changed, and where rows have
 left_none : (own : ViewState) (modes : Immediates) (done : StepResult) → done.view ≡ None → done.modes ≡ None → standing_with own modes ≡ left_by (standing_with own modes) done
@@ -95,15 +89,15 @@ module _ (own : ViewState) (modes : Immediates) where
       reads : List LockKey
       reads = read ∷ checks_read (layouts_in own.declared) (state_after_all (layouts_in own.declared) effect.changes own.state) (immediate_ones modes own.declared.assertions) (net_change (layouts_in own.declared) own.state (state_after_all (layouts_in own.declared) effect.changes own.state))
 
-  -- and they differ at the changed places alone
-  pub rows_differ : (real put : List Change) (after : ViewState) (reply : Reply) (violated : Option Refusal) (done : StepResult)
-      → DifferAt layouts own.state after.state (map place_of real)
+  -- and these are the changes to them
+  pub rows_between : (real put : List Change) (after : ViewState) (reply : Reply) (violated : Option Refusal) (done : StepResult)
+      → AreChangesBetween layouts own.state after.state real
       → IsLeft violated reply (Some after) None done → ArePut violated real put
-      → DifferAt layouts own.state (left_by (standing_with own modes) done).view (map place_of put)
-  rows_differ real put after reply None done d left same =
-      subst (λ all. DifferAt layouts own.state (rows_left own.state done.view) (map place_of all)) (sym same) (subst (λ u. DifferAt layouts own.state (rows_left own.state u) (map place_of real)) (sym left.1) d)
-  rows_differ real put after reply (Some refusal) done d left same =
-      subst (λ u. DifferAt layouts own.state (rows_left own.state u) (map place_of put)) (sym left.1) (differ_nowhere layouts own.state (map place_of put))
+      → AreChangesBetween layouts own.state (left_by (standing_with own modes) done).view put
+  rows_between real put after reply None done between left same =
+      subst (λ all. AreChangesBetween layouts own.state (rows_left own.state done.view) all) (sym same) (subst (λ u. AreChangesBetween layouts own.state (rows_left own.state u) real) (sym left.1) between)
+  rows_between real put after reply (Some refusal) done between left same =
+      subst (λ all. AreChangesBetween layouts own.state (rows_left own.state done.view) all) (sym same) (subst (λ u. AreChangesBetween layouts own.state (rows_left own.state u) []) (sym left.1) (between_none layouts own.state))
 
   -- modes that are set unless an assertion is violated are those of the step
   pub modes_done : (start : State) (names : List (List ℕ)) (new : Immediates) (net : List Change) (found violated : Option Refusal) (done : StepResult)

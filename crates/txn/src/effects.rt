@@ -7,7 +7,7 @@ ghost use Rattle.table.specs.Rows.{names_of};
 ghost use Rattle.alone.specs.States.{IsState};
 ghost use Rattle.assertcheck.specs.Updates.{IsBoundedSetting};
 ghost use Rattle.alone.specs.Statements.{insert_effect, sets_key};
-ghost use Rattle.txn.specs.Effects.{ArePutIn, delete_of, update_of};
+ghost use Rattle.txn.specs.Effects.{ArePutIn, delete_of, filter_on, update_of};
 ghost use Rattle.txn.specs.Runnable.{IsRunnableFilter};
 
 use alone::Reply;
@@ -15,7 +15,7 @@ use assertcheck::{NewRow, Setting};
 use changes::{TableFilter, insertion, removals, renewals};
 use delta::View;
 use std::alloc::{AllocError, Global};
-use table::Change;
+use table::{Change, Cond};
 use value::{Refusal, Text};
 
 /// What a statement answers, and the changes of rows that it makes, in the order in which they are put in.
@@ -50,6 +50,17 @@ pub fn insert_effect(alloc: Global, view: &View, new: &NewRow) -> Result<Effect,
         reply: Reply::Inserted,
         changes,
     })
+}
+
+/// A WHERE on a table of a view.
+pub fn filter_on<'a>(
+    view: &View,
+    table: usize,
+    condition: &'a Cond,
+) -> Result<TableFilter<'a>, AllocError>
+    ensures { IfOk result (λ filter. filter ≡ filter_on view.now table condition.now) }
+{
+    TableFilter::new(table, view.key_column(table), condition)
 }
 
 /// UPDATE of the rows that its WHERE keeps. Its refusals are those of `changes::renewals`.

@@ -26,19 +26,20 @@
 //!   lends its name and the least root at which it is; [`find_first_false`] does so of all assertions, also for tables
 //!   that a transaction is to begin on.
 //! - [`resolve`] finds a statement's names, and [`insert_effect`], [`update_effect`] and [`delete_effect`] are what it
-//!   does to the rows of a view before its assertions are asked: for who explains a refused statement.
+//!   does to the rows of a view before its assertions are asked, the last two by its WHERE on a table of the view
+//!   ([`filter_on`]): for who explains a refused statement.
 //!
 //! **Why each reply is that from scratch.** Of a transaction, contracts show six things: what is declared, its begin
 //! number and snapshot, whether it is read only, the state that it began on, and its trace. They name no own view and
-//! no modes that are kept, no places that it has changed and no key that it has noted. The definitions of `alone` run
-//! the trace again, from the first statement on, over plain lists of rows, and evaluate each condition and each
-//! assertion on them; [`Txn::execute`] answers what the last statement of such a run answers. For that a transaction
-//! keeps as its invariant that its own view, its modes and its keys are those which the run leaves, and that start and
-//! own view differ at most at the places that it has noted (`Held`). So the net change at COMMIT, found at these places
-//! alone, is that of the two whole states; a row that is set to what it held is no part of it. A view answers for its
-//! assertions (`delta`), and a statement that is refused leaves view and modes as they were, since the new ones are
-//! made beside the old and put in their place last. Of a read-only one the invariant says that its trace holds no
-//! INSERT, UPDATE or DELETE, and so it has no net change.
+//! no modes that are kept, no rows that it has touched and no key that it has noted. The definitions of `alone` run the
+//! trace again, from the first statement on, over plain lists of rows, and evaluate each condition and each assertion
+//! on them; [`Txn::execute`] answers what the last statement of such a run answers. For that a transaction keeps as its
+//! invariant that its own view, its modes and its keys are those which the run leaves, and that what it has noted of
+//! the rows that it touched is what start and own view hold there, which elsewhere are the same (`Held`). So the net
+//! change at COMMIT, read off these notes, is that of the two whole states; a row that is set to what it held is no
+//! part of it. A view answers for its assertions (`delta`), and a statement that is refused leaves view and modes as
+//! they were, since the new ones are made beside the old and put in their place last. Of a read-only one the invariant
+//! says that its trace holds no INSERT, UPDATE or DELETE, and so it has no net change.
 //!
 //! What the layer above may rest on: a trace is all that there is to know of a transaction, and it can be run again
 //! on other tables; a refusal is the definition's refusal, and stands in the trace; where memory runs out instead,
@@ -64,6 +65,6 @@ mod txns;
 pub use checks::{find_false, find_first_false, find_violation, verdict_on};
 pub use closed::{CloseFailure, ClosedTransaction, Parts};
 pub use copies::copy_changes;
-pub use effects::{Effect, delete_effect, insert_effect, recall_order, update_effect};
+pub use effects::{Effect, delete_effect, filter_on, insert_effect, recall_order, update_effect};
 pub use resolutions::{resolve, unless_memory};
 pub use txns::Txn;

@@ -1,41 +1,38 @@
 //! A statement of a transaction alone.
 
-ghost use Rattle.std.specs.Prelude.{◌≡◌, ◌≢◌, ◌<◌, ◌++◌, [], ◌∷◌, length, map, true, IfOk, OnErr, OnOk, Ok, Err, None, Some};
+ghost use Rattle.std.specs.Prelude.{◌≡◌, ◌≢◌, ◌<◌, ◌++◌, [], ◌∷◌, length, true, IfOk, OnErr, OnOk, Ok, Err, None, Some};
 ghost use Rattle.value.specs.Ordered.{HoldsOf};
 ghost use Rattle.value.specs.declared.refusals.Refusal.TheVariants.{NoMemory};
 ghost use Rattle.assertion.specs.Declarations.{layouts_in};
 ghost use Rattle.assertion.specs.Meaning.{State};
 ghost use Rattle.table.specs.Rows.{key_of};
 ghost use Rattle.siread.specs.declared.keys.LockKey.{LockKey as AnyKey};
-ghost use Rattle.siread.specs.Keys.{place_of};
 ghost use Rattle.alone.specs.Modes.{Immediates, assertion_of, is_immediate, modes_with};
 ghost use Rattle.alone.specs.declared.answers.Reply.TheVariants as replies;
 ghost use Rattle.alone.specs.declared.answers.Reply.TheVariants.{ModesSet};
 ghost use Rattle.alone.specs.Alone.{step_of_effect, modes_step, step_alone, verdict_step};
 ghost use Rattle.alone.specs.Reads.{filter_key};
-ghost use Rattle.alone.specs.States.{net_change};
+ghost use Rattle.alone.specs.States.{IsState, net_change};
 ghost use Rattle.alone.specs.Statements.{found_rows, selected_rows, place_in};
-ghost use Rattle.changes.specs.Nets.{DifferAt};
-ghost use Rattle.txn.specs.Effects.{ArePutIn, filter_on};
+ghost use Rattle.changes.specs.Nets.{AreChangesBetween, AreNoted};
+ghost use Rattle.txn.specs.Effects.{ArePutIn};
 ghost use Rattle.txn.specs.Runnable.{IsRunnable, IsRunnableDelete, IsRunnableSelect, IsRunnableUpdate};
 ghost use Rattle.txn.specs.Steps.{ArePut, IsDone, IsKnown, IsLeft, IsOf, delete_step, insert_step, left_by, shown_effect, standing_with, update_step};
 
 use crate::checks::{find_assertion, find_violation};
 use crate::effects::{
-    Effect, delete_effect, insert_effect, recall_order, recall_table, update_effect,
+    Effect, delete_effect, filter_on, insert_effect, recall_order, recall_table, update_effect,
 };
 use crate::resolutions::unless_memory;
 use alone::{Modes, Reply, ResolvedStatement};
 use assertcheck::{Delete, NewRow, Select, Update};
-use changes::{
-    TableFilter, TouchedPlaces, checks_read, net_change, real_changes, selected_rows, tables_read,
-};
+use changes::{TableFilter, TouchedRows, checks_read, real_changes, selected_rows, tables_read};
 use delta::View;
 use siread::{LockKey, Place};
 use sqlite_items::Items;
 use std::alloc::{AllocError, Global};
 use syntax::Mode;
-use table::{Change, Cond};
+use table::Change;
 use value::{Refusal, Text, Value};
 
 /// What a statement answered, a refusal among the answers, what it left where that is another than before, and what
@@ -51,28 +48,27 @@ pub struct StepResult {
     pub reads: Vec<LockKey>,
 }
 
-/// Runs a statement alone, on a transaction's own view and modes; the view on which it began can differ at the
-/// touched places alone. Only memory can fail; a statement that is refused is done, and its reply is the refusal.
+/// Runs a statement alone, on a transaction's own view and modes, of whose difference from the tables at its start is
+/// noted. Only memory can fail; a statement that is refused is done, and its reply is the refusal.
 pub fn step(
     alloc: Global,
-    start: &View,
     own: &View,
     modes: &Modes,
-    touched: &TouchedPlaces,
+    touched: &TouchedRows,
     statement: &ResolvedStatement,
 ) -> Result<StepResult, AllocError>
     requires runnable { IsRunnable own.now.declared statement.now }
     requires modes { length modes.now ≡ length own.now.declared.assertions }
-    requires declared { own.now.declared ≡ start.now.declared }
-    requires differ { DifferAt (layouts_in start.now.declared) start.now.state own.now.state touched.now }
-    ensures done { IfOk result
-        (IsDone (standing_with own.now modes.now)
-        (step_alone own.now.declared start.now.state (standing_with own.now modes.now) statement.now)) }
+    ensures done { IfOk result (λ done. (start : State)
+        → IsState (layouts_in own.now.declared) start
+        → AreNoted (layouts_in own.now.declared) start own.now.state touched.now
+        → IsDone (standing_with own.now modes.now)
+        (step_alone own.now.declared start (standing_with own.now modes.now) statement.now) done) }
     ensures of { IfOk result (IsOf own.now.declared) }
     ensures known { IfOk result IsKnown }
     ensures changes { IfOk result (λ done.
-        DifferAt (layouts_in own.now.declared) own.now.state (left_by (standing_with own.now modes.now) done).view
-        (map place_of done.changes.items)) }
+        AreChangesBetween (layouts_in own.now.declared) own.now.state
+        (left_by (standing_with own.now modes.now) done).view done.changes.items) }
 {
     match statement {
         ResolvedStatement::Refused(refusal) => Ok(refuse_with(refusal.copy()?, Vec::new(alloc))),
@@ -81,7 +77,7 @@ pub fn step(
         ResolvedStatement::Delete(delete) => run_delete(alloc, own, modes, delete),
         ResolvedStatement::Select(select) => run_select(alloc, own, select),
         ResolvedStatement::SetModes { names, mode } => {
-            run_set_constraints(alloc, start, own, modes, touched, names.as_slice(), *mode)
+            run_set_constraints(alloc, own, modes, touched, names.as_slice(), *mode)
         }
         ResolvedStatement::Verdict(name) => run_verdict(alloc, own, name),
     }
@@ -150,8 +146,8 @@ fn run_insert(
     ensures of { IfOk result (IsOf own.now.declared) }
     ensures known { IfOk result IsKnown }
     ensures changes { IfOk result (λ done.
-        DifferAt (layouts_in own.now.declared) own.now.state (left_by (standing_with own.now modes.now) done).view
-        (map place_of done.changes.items)) }
+        AreChangesBetween (layouts_in own.now.declared) own.now.state
+        (left_by (standing_with own.now modes.now) done).view done.changes.items) }
 {
     let reads = list_one(alloc, LockKey::Row(place_in(own, new)?))?;
     match insert_effect(alloc, own, new) {
@@ -173,8 +169,8 @@ fn run_update(
     ensures of { IfOk result (IsOf own.now.declared) }
     ensures known { IfOk result IsKnown }
     ensures changes { IfOk result (λ done.
-        DifferAt (layouts_in own.now.declared) own.now.state (left_by (standing_with own.now modes.now) done).view
-        (map place_of done.changes.items)) }
+        AreChangesBetween (layouts_in own.now.declared) own.now.state
+        (left_by (standing_with own.now modes.now) done).view done.changes.items) }
 {
     let filter = filter_on(own, update.table, &update.filter)?;
     let made = update_effect(alloc, own, update.sets.as_slice(), &filter);
@@ -198,24 +194,13 @@ fn run_delete(
     ensures of { IfOk result (IsOf own.now.declared) }
     ensures known { IfOk result IsKnown }
     ensures changes { IfOk result (λ done.
-        DifferAt (layouts_in own.now.declared) own.now.state (left_by (standing_with own.now modes.now) done).view
-        (map place_of done.changes.items)) }
+        AreChangesBetween (layouts_in own.now.declared) own.now.state
+        (left_by (standing_with own.now modes.now) done).view done.changes.items) }
 {
     let filter = filter_on(own, delete.table, &delete.filter)?;
     let effect = delete_effect(alloc, own, &filter)?;
     let reads = list_one(alloc, filter.into_read())?;
     put_in(own, modes, reads, effect)
-}
-
-/// A WHERE on a table of the view.
-fn filter_on<'a>(
-    own: &View,
-    table: usize,
-    condition: &'a Cond,
-) -> Result<TableFilter<'a>, AllocError>
-    ensures { IfOk result (λ filter. filter ≡ filter_on own.now table condition.now) }
-{
-    TableFilter::new(table, own.key_column(table), condition)
 }
 
 /// The place at which a new row is to stand.
@@ -250,8 +235,8 @@ fn put_in(
     ensures of { IfOk result (IsOf own.now.declared) }
     ensures known { IfOk result IsKnown }
     ensures changes { IfOk result (λ done.
-        DifferAt (layouts_in own.now.declared) own.now.state (left_by (standing_with own.now modes.now) done).view
-        (map place_of done.changes.items)) }
+        AreChangesBetween (layouts_in own.now.declared) own.now.state
+        (left_by (standing_with own.now modes.now) done).view done.changes.items) }
 {
     let Effect { reply, changes } = effect;
     let alloc = *reads.allocator();
@@ -335,22 +320,21 @@ fn run_select(alloc: Global, own: &View, select: &Select) -> Result<StepResult, 
 /// false no mode changes.
 fn run_set_constraints(
     alloc: Global,
-    start: &View,
     own: &View,
     modes: &Modes,
-    touched: &TouchedPlaces,
+    touched: &TouchedRows,
     names: &[Text],
     mode: Mode,
 ) -> Result<StepResult, AllocError>
     requires modes { length modes.now ≡ length own.now.declared.assertions }
-    requires declared { own.now.declared ≡ start.now.declared }
-    requires differ { DifferAt (layouts_in start.now.declared) start.now.state own.now.state touched.now }
-    ensures done { IfOk result
-        (IsDone (standing_with own.now modes.now)
-        (modes_step own.now.declared start.now.state names.now (is_immediate mode) (standing_with own.now modes.now))) }
+    ensures done { IfOk result (λ done. (start : State)
+        → IsState (layouts_in own.now.declared) start
+        → AreNoted (layouts_in own.now.declared) start own.now.state touched.now
+        → IsDone (standing_with own.now modes.now)
+        (modes_step own.now.declared start names.now (is_immediate mode) (standing_with own.now modes.now)) done) }
     ensures of { IfOk result (IsOf own.now.declared) }
     ensures known { IfOk result IsKnown }
-    ensures rows { IfOk result (λ done. done.view ≡ None) }
+    ensures rows { IfOk result (λ done. (done.view ≡ None) × (done.changes.items ≡ [])) }
 {
     match mode {
         Mode::Deferred => {
@@ -358,7 +342,8 @@ fn run_set_constraints(
             Ok(leave_modes_unless(None, after, Vec::new(alloc)))
         }
         Mode::Immediate => {
-            let net = net_change(alloc, start, own, touched)?;
+            recall_order(own);
+            let net = touched.net_change(alloc)?;
             set_immediate(alloc, own, modes, names, net.as_slice())
         }
     }
@@ -396,7 +381,7 @@ fn set_immediate(
         (modes_step own.now.declared start names.now true (standing_with own.now modes.now)) done) }
     ensures of { IfOk result (IsOf own.now.declared) }
     ensures known { IfOk result IsKnown }
-    ensures rows { IfOk result (λ done. done.view ≡ None) }
+    ensures rows { IfOk result (λ done. (done.view ≡ None) × (done.changes.items ≡ [])) }
 {
     let meant = Modes::named_immediate(alloc, own.assertions(), names)?;
     let reads = checks_read(alloc, own, &meant, net)?;

@@ -1,9 +1,9 @@
 //! Open transactions.
 
-ghost use Rattle.std.specs.Prelude.{◌≡◌, ◌≢◌, ◌<◌, ◌++◌, true, [], map, unwrap_or, vec_capacity, vec_len, Contains, IfOk, IfErr, OnErr, OnOk, Ok, Err};
+ghost use Rattle.std.specs.Prelude.{◌≡◌, ◌≢◌, ◌<◌, ◌++◌, true, [], unwrap_or, vec_capacity, vec_len, IfOk, IfErr, OnErr, OnOk, Ok, Err};
 ghost use Rattle.value.specs.declared.refusals.Refusal.TheVariants.{NoMemory};
 ghost use Rattle.siread.specs.declared.keys.Place.{Place as AnyPlace};
-ghost use Rattle.siread.specs.Keys.{place_of};
+ghost use Rattle.changes.specs.Nets.{HasPlaces, noted_at};
 ghost use Rattle.alone.specs.Modes.{assertion_of};
 ghost use Rattle.alone.specs.Resolve.{is_read_only, resolution_of};
 ghost use Rattle.txn.specs.Held.{IsClosed};
@@ -12,12 +12,13 @@ ghost use Rattle.txn.specs.Transactions.{transaction_at_begin, false_names, outc
 
 use crate::checks::{find_violation, list_false, verdict_on};
 use crate::closed::{CloseFailure, ClosedTransaction};
+use crate::effects::recall_order;
 use crate::resolutions::resolve;
 use crate::steps::{StepResult, append, copy_with, step};
 use alone::{
     Modes, Reply, ResolvedStatement, read_only_statements_change_nothing, runs_are_joined,
 };
-use changes::{TouchedPlaces, checks_read, net_change};
+use changes::{TouchedRows, checks_read};
 use delta::View;
 use siread::LockKey;
 use std::alloc::{AllocError, Global};
@@ -36,7 +37,7 @@ pub struct Txn {
     pub(crate) own: View,
     pub(crate) modes: Modes,
     pub(crate) trace: Vec<ResolvedStatement>,
-    pub(crate) touched: TouchedPlaces,
+    pub(crate) touched: TouchedRows,
     pub(crate) reads: Vec<LockKey>,
 }
 
@@ -87,7 +88,7 @@ impl Txn {
             own: tables.copy()?,
             modes: Modes::initial(alloc, tables.assertions())?,
             trace: Vec::new(alloc),
-            touched: TouchedPlaces::new(alloc),
+            touched: TouchedRows::new(alloc),
             reads: Vec::new(alloc),
         })
     }
@@ -186,14 +187,8 @@ impl Txn {
         ensures same { IfErr result (λ refusal. refusal ≡ NoMemory → self.new ≡ self.old) }
     {
         runs_are_joined();
-        let done = match step(
-            alloc,
-            &self.start,
-            &self.own,
-            &self.modes,
-            &self.touched,
-            &statement,
-        ) {
+        recall_order(&self.start);
+        let done = match step(alloc, &self.own, &self.modes, &self.touched, &statement) {
             Ok(done) => done,
             Err(_) => return drop_and_refuse(statement),
         };
@@ -211,10 +206,11 @@ impl Txn {
             changes.as_slice(),
             reads,
         ) {
-            return drop_and_refuse((statement, reply, view, modes));
+            return drop_and_refuse((statement, reply, view, modes, changes));
         }
         settle(&mut self.own, view);
         settle_modes(&mut self.modes, modes);
+        self.touched.put(changes);
         self.trace.push_reserved(statement);
         reply
     }
@@ -266,10 +262,14 @@ impl Txn {
             IsClosed self.now closing.changes.items closing.refused closing.keys.items) }
     {
         let alloc = *self.trace.allocator();
-        let changes = net_change(alloc, &self.start, &self.own, &self.touched)?;
+        recall_order(&self.start);
+        recall_order(&self.own);
+        let changes = self.touched.net_change(alloc)?;
         let meant = Modes::all_immediate(self.own.assertions());
-        let checked = checks_read(alloc, &self.own, &meant, changes.as_slice())?;
         let refused = find_violation(&self.own, &meant)?;
+        // Of the others the statements have read what their checks read.
+        let deferred = self.modes.opposite(alloc)?;
+        let checked = checks_read(alloc, &self.own, &deferred, changes.as_slice())?;
         let keys = copy_with(alloc, self.reads.as_slice(), checked)?;
         Ok(CloseCheck {
             changes,
@@ -322,24 +322,23 @@ fn drop_and_refuse<T: Drop>(_made: T) -> Result<Reply, Refusal>
     Err(Refusal::NoMemory)
 }
 
-/// Notes the places of changes and what was read, and makes room for one more statement. After an error some of the
-/// places may have been noted.
+/// Notes what was read, and makes room for one more statement and its changes. After an error there may be room for
+/// some of them.
 fn make_room(
-    touched: &mut TouchedPlaces,
+    touched: &mut TouchedRows,
     trace: &mut Vec<ResolvedStatement>,
     reads: &mut Vec<LockKey>,
     changes: &[Change],
     more: Vec<LockKey>,
 ) -> Result<(), AllocError>
-    ensures kept { (place : AnyPlace) → Contains touched.old place → Contains touched.new place }
-    ensures added { OnOk result ((place : AnyPlace) → Contains (map place_of changes.now) place
-        → Contains touched.new place) }
+    ensures noted { (place : AnyPlace) → noted_at touched.new place ≡ noted_at touched.old place }
+    ensures places { OnOk result (HasPlaces touched.new changes.now) }
     ensures trace { trace.new.items ≡ trace.old.items }
     ensures room { OnOk result (vec_len trace.new < vec_capacity trace.new) }
     ensures read { OnOk result (reads.new.items ≡ reads.old.items ++ more.items) }
     ensures unread { OnErr result (reads.new.items ≡ reads.old.items) }
 {
-    touched.add(changes)?;
+    touched.make_room(changes)?;
     // A commit keeps the trace, and most transactions have few statements.
     if trace.is_empty() {
         trace.reserve_exact(1)?;

@@ -1,17 +1,16 @@
-use Rattle.std.proofs.Common.{◌≡◌, List, map, ap, sym, refl, ◌∙◌, subst, ◌++◌, ◌∷◌}
+use Rattle.std.proofs.Common.{◌≡◌, List, ap, sym, refl, ◌∙◌, subst, ◌++◌, ◌∷◌}
 use Rattle.table.specs.declared.rows.Change.{Change}
 use Rattle.assertion.specs.Declarations.{layouts_in}
 use Rattle.assertion.specs.Changes.{AreChangesOf, state_after_all}
 use Rattle.alone.specs.Modes.{immediate_ones}
 use Rattle.alone.specs.Checks.{checks_read}
 use Rattle.alone.specs.States.{net_change, IsPut, IsState}
-use Rattle.siread.specs.Keys.{place_of}
-use Rattle.changes.specs.Nets.{DifferAt}
+use Rattle.changes.specs.Nets.{AreChangesBetween}
 use Rattle.alone.proofs.Lists.{each_from}
 use Rattle.alone.proofs.Stores.{all_fit}
 use Rattle.alone.proofs.Orders.{due_changes, net_is_real}
 use Rattle.delta.specs.Views.{ViewState}
-use Rattle.txn.proofs.Putting.{differ_net, rows_differ, rows_done}
+use Rattle.txn.proofs.Putting.{between_net, rows_between, rows_done}
 use Rattle.txn.proofs.steps.put_in.Goals as goal
 
 pub after-requires-clause-are : goal.after-requires-clause-are
@@ -41,9 +40,9 @@ returns-clause-done c = λ read is.
 
 pub returns-clause-changes : goal.returns-clause-changes
 returns-clause-changes c =
-    rows_differ c.args.own.now c.args.modes.now c.real_changes-real.result.items c.leave_rows_unless.result.changes.items c.in_ok-after.after c.args.effect.reply c.in_ok-violated.violated c.leave_rows_unless.result
-    (subst (λ changes. DifferAt (layouts_in c.args.own.now.declared) c.args.own.now.state c.in_ok-after.after.state (map place_of changes)) (sym (net_is c ∙ ap (net_change (layouts_in c.args.own.now.declared) c.args.own.now.state) (sym (after_is c))))
-    (differ_net (layouts_in c.args.own.now.declared) c.args.own.now.state c.in_ok-after.after.state c.recall_order.ensures
+    rows_between c.args.own.now c.args.modes.now c.real_changes-real.result.items c.leave_rows_unless.result.changes.items c.in_ok-after.after c.args.effect.reply c.in_ok-violated.violated c.leave_rows_unless.result
+    (subst (λ changes. AreChangesBetween (layouts_in c.args.own.now.declared) c.args.own.now.state c.in_ok-after.after.state changes) (sym (net_is c ∙ ap (net_change (layouts_in c.args.own.now.declared) c.args.own.now.state) (sym (after_is c))))
+    (between_net (layouts_in c.args.own.now.declared) c.args.own.now.state c.in_ok-after.after.state c.recall_order.ensures
     (subst (IsState (layouts_in c.args.own.now.declared)) (sym (after_is c))
     (all_fit (layouts_in c.args.own.now.declared) c.args.effect.changes.items c.args.own.now.state c.recall_order.ensures (each_from (IsPut (layouts_in c.args.own.now.declared)) c.args.effect.changes.items c.requires.changes.due.puts)))))
     c.leave_rows_unless.ensures.left c.leave_rows_unless.ensures.changes

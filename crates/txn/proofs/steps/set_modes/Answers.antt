@@ -1,4 +1,4 @@
-use Rattle.txn.proofs.Modes.{set_long}
+use Rattle.alone.proofs.Immediates.{set_long}
 use Rattle.txn.proofs.steps.set_modes.Goals as goal
 
 pub returns-clause-long : goal.returns-clause-long
