@@ -240,7 +240,7 @@ module _ (layouts : List Layout) (start before after : State) where
       → ((place : Place) → noted_at new place ≡ noted_after_all changes place (noted_at old place)) → AreNoted layouts start after new
   noted_put old new changes h c put = record {
     each = λ place. subst (λ o. IsNoted o (row_in layouts start place) (row_in layouts after place)) (sym (put place))
-        (put_at place changes c.exact (noted_at old place) (inl (h.each place, c.differ.elsewhere place)));
+        (put_at place changes c.exact (noted_at old place) (inl (h.each place, c.elsewhere place)));
   }
 
 -- tables are a state in key order
@@ -261,11 +261,12 @@ room_same old new p none puts q = ap (λ o. unwrap_or o None) (puts q) ∙ go (i
     go true e = subst (λ place. None ≡ unwrap_or (entry_at old place) None) (same_place-true p q (sym (is_eq-place p q) ∙ e)) (absent (entry_at old p) none)
 
 -- a change put in where there is room
-pub change_put : (old new : Noted) (change : Change) (rows : Option RowsThere) → entry_at old (place_of change) ≡ Some rows
-    → ((q : Place) → entry_at new q ≡ cond (is_at (place_order.it (place_of change)) q) (Some (Some (rows_after change.old change.new rows))) (entry_at old q))
+pub change_put : (old new : Noted) (change : Change) (rows put : Option RowsThere) → entry_at old (place_of change) ≡ Some rows
+    → put ≡ Some (rows_after change.old change.new rows) → ((q : Place) → entry_at new q ≡ cond (is_at (place_order.it (place_of change)) q) (Some put) (entry_at old q))
     → (q : Place) → noted_at new q ≡ noted_after change q (noted_at old q)
-change_put old new change rows there puts q =
+change_put old new change rows put there is puts q =
     ap (λ o. unwrap_or o None) (puts q)
+    ∙ ap (λ o. unwrap_or (cond (is_at (place_order.it (place_of change)) q) (Some o) (entry_at old q)) None) is
     ∙ ap (λ b. unwrap_or (cond b (Some (Some (rows_after change.old change.new rows))) (entry_at old q)) None) (is_eq-place (place_of change) q)
     ∙ go (same_place (place_of change) q) refl
   where

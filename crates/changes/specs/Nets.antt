@@ -11,15 +11,12 @@ use Rattle.siread.specs.Keys.{place_of, same_place}
 use Rattle.alone.specs.States.{row_in, is_real, change_between}
 use Rattle.changes.specs.declared.touched.RowsThere.{RowsThere}
 
--- at any place but these, two states hold the same
-pub record DifferAt (layouts : List Layout) (before after : State) (places : List Place) : Type 0 where
-  pub elsewhere : (place : Place) → (row_in layouts before place ≡ row_in layouts after place) ⊎ Contains places place
-
 -- changes between two states: each has what they hold at its place, and at any other place they hold the same
 pub record AreChangesBetween (layouts : List Layout) (before after : State) (changes : List Change) : Type 0 where
   pub exact : (change : Change) → Contains changes change
       → change ≡ change_between layouts before after (place_of change)
-  pub differ : DifferAt layouts before after (map place_of changes)
+  pub elsewhere : (place : Place)
+      → (row_in layouts before place ≡ row_in layouts after place) ⊎ Contains (map place_of changes) place
 
 -- for some places the rows there, where any are noted
 abbrev pub Noted : Type 0

@@ -103,9 +103,10 @@ impl TouchedRows {
             new,
         } = change;
         let place = Place { table, key };
-        if let Some(rows) = self.rows.get_mut(&place) {
-            put_rows(rows, old, new);
-        }
+        let Some(rows) = self.rows.get_mut(&place) else {
+            return;
+        };
+        put_rows(rows, old, new);
     }
 
     /// The net change between two states that differ as is noted: the rows in which they differ, by table and key,

@@ -64,27 +64,34 @@ noted_room layouts start now old new same h = record {
   each = λ place. subst (λ o. IsNoted o (row_in layouts start place) (row_in layouts now place)) (sym (same place)) (h.each place);
 }
 
--- the step that was done is that from the start
-pub done_from : (t : OpenTransaction) (own : ViewState) (modes : Immediates) (touched : Noted) (reads : List LockKey) (s : ResolvedStatement) (d : StepResult) → IsHeld t own modes touched reads
-    → IsState (layouts_in t.declared) t.start
-    → ((start : State) → IsState (layouts_in own.declared) start → AreNoted (layouts_in own.declared) start own.state touched
-    → IsDone (standing_with own modes) (step_alone own.declared start (standing_with own modes) s) d)
-    → IsDone (standing_with own modes) (step_alone own.declared t.start (standing_with own modes) s) d
-done_from t own modes touched reads s d h fit done =
-    let same : t.declared ≡ own.declared = sym (ap (λ (o : ViewState). o.declared) h.own_is) in
-    done t.start (subst (λ (declared : Declared). IsState (layouts_in declared) t.start) same fit)
-    (subst (λ (declared : Declared). AreNoted (layouts_in declared) t.start own.state touched) same h.noted)
+-- it was done as the step from any start whose difference is noted
+abbrev IsDoneFrom : ViewState → Immediates → Noted → ResolvedStatement → StepResult → Type 0
+IsDoneFrom own modes touched s d = (start : State) → IsState (layouts_in own.declared) start → AreNoted (layouts_in own.declared) start own.state touched
+    → IsDone (standing_with own modes) (step_alone own.declared start (standing_with own modes) s) d
+
+module _ (t : OpenTransaction) (own : ViewState) (modes : Immediates) (s : ResolvedStatement) (d : StepResult) {touched : Noted} {reads : List LockKey}
+    (h : IsHeld t own modes touched reads) (fit : IsState (layouts_in t.declared) t.start) (does : IsDoneFrom own modes touched s d) where
+  -- so as that from the transaction's
+  done_from : IsDone (standing_with own modes) (step_alone own.declared t.start (standing_with own modes) s) d
+  done_from =
+      let same : t.declared ≡ own.declared = sym (ap (λ (o : ViewState). o.declared) h.own_is) in
+      does t.start (subst (λ (declared : Declared). IsState (layouts_in declared) t.start) same fit)
+      (subst (λ (declared : Declared). AreNoted (layouts_in declared) t.start own.state touched) same h.noted)
+
+  pub reply_from : (step_of t s).reply ≡ d.reply
+  reply_from = sym (ap (λ (p : Step). p.reply) (step_is t own modes s h)) ∙ done_from.reply
 
 pub held_after : (t : OpenTransaction) (own : ViewState) (modes : Immediates) (touched room more : Noted) (reads all : List LockKey) (s : ResolvedStatement) (d : StepResult) → InParts
-    → IsHeld t own modes touched reads
-    → IsDone (standing_with own modes) (step_alone own.declared t.start (standing_with own modes) s) d → IsOf own.declared d
+    → IsHeld t own modes touched reads → IsState (layouts_in t.declared) t.start
+    → IsDoneFrom own modes touched s d → IsOf own.declared d
     → AreChangesBetween (layouts_in own.declared) own.state (left_by (standing_with own modes) d).view d.changes.items
     → ((place : Place) → noted_at room place ≡ noted_at touched place)
     → ((layouts : List Layout) (start before after : State) → AreNoted layouts start before room → AreChangesBetween layouts before after d.changes.items → AreNoted layouts start after more)
     → all ≡ reads ++ d.reads.items
     → (t.read_only ≡ true → is_read_only s ≡ true)
     → IsHeld (with_statement t s) (unwrap_or d.view own) (unwrap_or d.modes modes) more all
-held_after t own modes touched room more reads all s d parts h done of between same put read may =
+held_after t own modes touched room more reads all s d parts h fit does of between same put read may =
+    let done : IsDone (standing_with own modes) (step_alone own.declared t.start (standing_with own modes) s) d = done_from t own modes s d h fit does in
     let step : step_alone own.declared t.start (standing_with own modes) s ≡ step_of t s = step_is t own modes s h in
     let after : standing_of (with_statement t s) ≡ left_by (standing_with own modes) d = final_with t own modes s parts ∙ sym (ap (λ (p : Step). p.after) step) ∙ done.after in
     let declared : (unwrap_or d.view own).declared ≡ t.declared = declared_left own d.view of.view ∙ ap (λ (o : ViewState). o.declared) h.own_is in

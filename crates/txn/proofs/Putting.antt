@@ -1,5 +1,5 @@
 -- What changes that are put in leave of a state.
-use Rattle.std.proofs.Common.{◌≡◌, ℕ, true, List, [], ◌∷◌, Option, Some, None, Ok, map, refl, sym, ap, ◌∙◌, subst, inl, inr}
+use Rattle.std.proofs.Common.{◌≡◌, ℕ, true, List, [], ◌∷◌, Option, Some, None, Ok, refl, sym, ap, ◌∙◌, subst, inl, inr}
 use Rattle.std.specs.Prelude.{unwrap_or}
 use Rattle.value.specs.declared.refusals.Refusal.{Refusal}
 use Rattle.table.specs.declared.rows.Change.{Change}
@@ -21,27 +21,24 @@ use Rattle.alone.proofs.Members.{in_map}
 use Rattle.alone.proofs.Nets.{net_all, net_exact}
 use Rattle.siread.proofs.Members.{not_in_nil}
 use Rattle.delta.specs.Views.{ViewState}
-use Rattle.changes.specs.Nets.{AreChangesBetween, DifferAt}
+use Rattle.changes.specs.Nets.{AreChangesBetween}
 use Rattle.txn.specs.declared.steps.StepResult.{StepResult}
 use Rattle.txn.specs.Steps.{ArePut, IsDone, IsLeft, left_by, rows_left, standing_with}
 
 module _ (layouts : List Layout) where
-  -- two states differ at the places of their net change alone
-  pub differ_net : (before after : State) → IsState layouts before → IsState layouts after → DifferAt layouts before after (map place_of (net_change layouts before after))
-  differ_net before after f g = record {
+  -- the net change of two states is the changes between them
+  pub between_net : (before after : State) → IsState layouts before → IsState layouts after → AreChangesBetween layouts before after (net_change layouts before after)
+  between_net before after f g = record {
+    exact = λ change m. (net_exact layouts before after change m).0;
     elsewhere = λ place. elim (net_all layouts before after f g place) [
       | inl same ↦ inl same
       | inr listed ↦ inr (in_map place_of (net_change layouts before after) (change_between layouts before after place) listed)
     ];
   }
 
-  -- and so it is the changes between them
-  pub between_net : (before after : State) → IsState layouts before → IsState layouts after → AreChangesBetween layouts before after (net_change layouts before after)
-  between_net before after f g = record { exact = λ change m. (net_exact layouts before after change m).0; differ = differ_net before after f g }
-
   -- where nothing changed there are none
   pub between_none : (state : State) → AreChangesBetween layouts state state []
-  between_none state = record { exact = λ change m. absurd (not_in_nil change m); differ = record { elsewhere = λ place. inl refl } }
+  between_none state = record { exact = λ change m. absurd (not_in_nil change m); elsewhere = λ place. inl refl }
 
 -- what is left where nothing has changed, and where rows have
 left_none : (own : ViewState) (modes : Immediates) (done : StepResult) → done.view ≡ None → done.modes ≡ None → standing_with own modes ≡ left_by (standing_with own modes) done
