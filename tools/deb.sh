@@ -6,8 +6,8 @@
 # OUT gets skewguard (the program), libskewguard0 (the shared library), libskewguard-dev (header, static library,
 # manual) and python3-skewguard, for Debian 12 on amd64. Without --program `rt run` proves and builds the program;
 # without --library tools/c_library.py builds the library. A package is the same for the same files: times are
-# SOURCE_DATE_EPOCH, or that of the last commit. It needs dpkg-dev, binutils, a C compiler and Python 3. Where lintian
-# is installed, it looks at the packages.
+# SOURCE_DATE_EPOCH, or that of the last commit. It needs dpkg-dev, binutils, a C compiler, and Python 3 with its
+# headers. Where lintian is installed, it looks at the packages.
 #
 # --chroot names a root folder of Debian 12 with python3, made before by
 #   debootstrap --variant=minbase --include=python3 bookworm FOLDER
@@ -121,6 +121,7 @@ stage_python3-skewguard() {
         python3 -B -c "import sys, wheels; wheels.build_wheel(sys.argv[1])" "$wheels")
     python3 -m zipfile -e "$wheels"/skewguard-*.whl "$stage/$site"
     rm "$stage/$site"/skewguard-*.dist-info/RECORD "$wheels"/*.whl
+    [[ -f $stage/$site/skewguard/_native.abi3.so ]] # the extension, which a wheel without a compiler has not
     put 644 "$top/bindings/python/README.md" usr/share/doc/python3-skewguard/README.md
     for script in "$top"/bindings/python/examples/*.py; do
         put 644 "$script" "usr/share/doc/python3-skewguard/examples/$(basename "$script")"
@@ -147,6 +148,7 @@ write_control() {
     case $name in
         skewguard) needs=$(needed "$stage/usr/bin/skewguard") ;;
         libskewguard0) needs=$(needed "$stage/$libraries/$shared") ;;
+        python3-skewguard) needs=$(needed "$stage"/usr/lib/python3/dist-packages/skewguard/*.so) ;;
     esac
     mkdir -p "$stage/DEBIAN"
     local size
@@ -181,7 +183,8 @@ pack_all() {
     done
 }
 
-# The two programs in C of the trial: the manual's example, by the packages' header, with either library.
+# The two programs in C of the trial: the manual's example, by the packages' header, with either library; the shared one
+# as pkg-config says, where there is that.
 compile_example() {
     local dev=$work/dev
     mkdir -p "$dev"
@@ -189,7 +192,12 @@ compile_example() {
     dpkg-deb -x "$out"/libskewguard-dev_*.deb "$dev"
     python3 "$top/tools/languages.py" --manual >"$work/first.c"
     local words=(cc -std=c99 -Wall -Wextra -pedantic -Werror -O2 -I "$dev/usr/include" "$work/first.c")
-    "${words[@]}" -o "$work/first" -L "$dev/$libraries" -lskewguard
+    local linked=(-L "$dev/$libraries" -lskewguard)
+    if command -v pkg-config >/dev/null; then
+        export PKG_CONFIG_LIBDIR=$dev/$libraries/pkgconfig PKG_CONFIG_SYSROOT_DIR=$dev
+        read -ra linked < <(PKG_CONFIG_ALLOW_SYSTEM_LIBS=1 pkg-config --libs skewguard)
+    fi
+    "${words[@]}" -o "$work/first" "${linked[@]}"
     "${words[@]}" -o "$work/first-static" "$dev/$libraries/libskewguard.a"
 }
 
@@ -237,6 +245,7 @@ try_all() {
         [[ -s $work/answers ]]
     done
     inside sh -c 'cd /tmp && python3 -c "import skewguard; print(skewguard.__version__)"' | grep -qx "$version"
+    inside sh -c 'cd /tmp && python3 -c "import skewguard; print(skewguard.IMPLEMENTATION)"' | grep -qx C
     inside ldconfig -p | grep -q "$soname"
     [[ $(readlink "$root/$libraries/libskewguard.so") == "$soname" ]]
     for name in man1/skewguard.1 man3/skewguard.3; do

@@ -5,7 +5,10 @@
     tools/languages.py --manual          prints the manual's example in C
 
 FOLDER has the static and the shared library; without it tools/c_library.py builds them. FILE is the program, or that
-which the gate has built. It needs a C compiler, cargo, and Python 3.9 or later with venv; no network.
+which the gate has built. It needs a C compiler, cargo, and Python 3.9 or later with venv and its headers; no network.
+
+Python is tried by both implementations: over ctypes, and in C, built from the package's source archive; that one is
+tried under AddressSanitizer once more, where the compiler has it.
 """
 import argparse
 import os
@@ -14,8 +17,10 @@ import re
 import shutil
 import subprocess
 import sys
+import tarfile
 import tempfile
 import typing
+import zipfile
 
 TOP = pathlib.Path(__file__).resolve().parent.parent
 PYTHON, RUST = TOP / "bindings/python", TOP / "bindings/rust"
@@ -81,15 +86,60 @@ def environment(library, program, folder):
     return os.environ | own
 
 
-def python_tests(known):
-    run([sys.executable, "-X", "dev", "-W", "error", "-m", "unittest", "discover", "-s", PYTHON / "tests"],
-        cwd=PYTHON / "tests", env=known)
+def unittests(known, *modules):
+    """Runs the tests of modules, or all."""
+    chosen = modules or ["discover", "-s", PYTHON / "tests"]
+    run([sys.executable, "-X", "dev", "-W", "error", "-m", "unittest", *chosen], cwd=PYTHON / "tests", env=known)
+
+
+def python_tests(known, implementation):
+    """The tests, the README and the examples by an implementation."""
+    found = run([sys.executable, "-c", "import skewguard; print(skewguard.IMPLEMENTATION)"], env=known)
+    wanted("the implementation", found, f"{implementation}\n")
+    unittests(known)
     readme = (PYTHON / "README.md").read_text(encoding="utf-8")
     first = re.search(r"^```python\n(.*?)^```$", readme, re.MULTILINE | re.DOTALL).group(1)
     printed = re.search(r"^It prints `(.*)`\.$", readme, re.MULTILINE).group(1)
     wanted("the example of the README", run([sys.executable, "-c", first], env=known), f"{printed}\n")
     for name, expected in EXAMPLES.items():
         wanted(f"{name}.py", run([sys.executable, PYTHON / f"examples/{name}.py"], env=known), expected)
+
+
+def with_extension(known, folder, **flags):
+    """The environment in which the package is that of a wheel, which was built from the source archive."""
+    folder.mkdir()
+
+    def made(what, top, environment):
+        """The file that the backend of a folder makes."""
+        words = [sys.executable, "-c", f"import sys, wheels; print(wheels.build_{what}(sys.argv[1]))", folder]
+        return folder / run(words, cwd=top / "backend", env=environment).splitlines()[-1]
+
+    archive = made("sdist", PYTHON, known)
+    with tarfile.open(archive) as sources:
+        sources.extractall(folder)
+    with zipfile.ZipFile(made("wheel", folder / archive.name[: -len(".tar.gz")], known | flags)) as files:
+        files.extractall(folder / "packages")
+    return known | {"PYTHONPATH": str(folder / "packages")}
+
+
+def sanitized_extension(known, folder):
+    """The tests of the extension under AddressSanitizer; None where the compiler has none."""
+    found = [run(["cc", f"-print-file-name={name}"]).strip() for name in ("libasan.so", "libubsan.so")]
+    if not all(map(os.path.isabs, found)):
+        return None
+    flags = "-O1 -g -fno-lto -fsanitize=address,undefined -fno-sanitize-recover=undefined"
+    known = with_extension(known, folder, CFLAGS=flags)
+    # What Python keeps until its end is no leak: tests/test_memory.py looks for those.
+    options = {"ASAN_OPTIONS": "detect_leaks=0:allocator_may_return_null=1", "PYTHONMALLOC": "malloc"}
+    unittests(known | options | {"LD_PRELOAD": " ".join(found)})
+    return known
+
+
+def python_implementations(known, folder):
+    """All that Python is tried by; True where AddressSanitizer was there."""
+    python_tests(known | {"SKEWGUARD_CTYPES": "1"}, "ctypes")
+    python_tests(with_extension(known, folder / "extension"), "C")
+    return sanitized_extension(known, folder / "sanitized") is not None
 
 
 def python_package(known, library, folder):
@@ -99,17 +149,30 @@ def python_package(known, library, folder):
     bare = {name: value for name, value in known.items() if not name.startswith(("PYTHON", "SKEWGUARD", "LD_"))}
     bundled = bare | {"SKEWGUARD_BUNDLE": str(library / SONAME)}
     run([python, "-m", "pip", "install", "--quiet", "--no-index", "--disable-pip-version-check", PYTHON], env=bundled)
-    found = run([python, PYTHON / "examples/booking.py"], cwd=folder, env=bare)
-    wanted("booking.py, installed", found, EXAMPLES["booking"])
+    found = run([python, "-c", "import skewguard; print(skewguard.IMPLEMENTATION)"], cwd=folder, env=bare)
+    wanted("the implementation, installed", found, "C\n")
+    for name, expected in EXAMPLES.items():
+        for chosen in ({}, {"SKEWGUARD_CTYPES": "1"}):
+            found = run([python, PYTHON / f"examples/{name}.py"], cwd=folder, env=bare | chosen)
+            wanted(f"{name}.py, installed", found, expected)
     run([python, "-m", "pip", "uninstall", "--quiet", "--yes", "--disable-pip-version-check", "skewguard"], env=bare)
 
 
+def unaided(known):
+    """An environment in which nothing says where libraries are at run time."""
+    return {name: value for name, value in known.items() if name != "LD_LIBRARY_PATH"}
+
+
 def rust_tests(known):
-    for words in (["test", "--quiet", "--offline"], ["build", "--quiet", "--offline", "--examples"]):
-        run(["cargo", *words, "--manifest-path", RUST / "Cargo.toml"], env=known)
-    for name, expected in EXAMPLES.items():
-        program = pathlib.Path(known["CARGO_TARGET_DIR"]) / "debug/examples" / name
-        wanted(f"{name}.rs", run([program], env=known), expected)
+    """The tests and examples with the static library, and the examples with the shared one."""
+    known = unaided(known)
+    run(["cargo", "test", "--quiet", "--offline", "--manifest-path", RUST / "Cargo.toml"], env=known)
+    for chosen in ({}, {"SKEWGUARD_STATIC": "0"}):
+        words = ["build", "--quiet", "--offline", "--examples"]
+        run(["cargo", *words, "--manifest-path", RUST / "Cargo.toml"], env=known | chosen)
+        for name, expected in EXAMPLES.items():
+            program = pathlib.Path(known["CARGO_TARGET_DIR"]) / "debug/examples" / name
+            wanted(f"{name}.rs", run([program], env=known), expected)
 
 
 def manual_page():
@@ -229,7 +292,8 @@ def page(known, folder, without_rust):
         del found["src/main.rs"]
     quiet = known | {"CARGO_TERM_QUIET": "true", "CARGO_NET_OFFLINE": "true"}
     for name, way in found.items():
-        run_way(name, way, folder / name.replace("/", "_"), quiet)
+        # (a crate that stands on the one for Rust needs nothing where it runs)
+        run_way(name, way, folder / name.replace("/", "_"), unaided(quiet) if name.endswith(".rs") else quiet)
     run_way("script.sql", language["script.sql"], folder / "language", quiet)
     rules(known, folder)
     answers_of_examples(language["script.sql"].files.values())
@@ -258,13 +322,14 @@ def main():
             run([sys.executable, TOP / "tools/c_library.py", library])
         library = linked(library.resolve(), folder)
         known = environment(library, asked.program.resolve(), folder)
-        python_tests(known)
+        is_sanitized = python_implementations(known, folder)
         python_package(known, library, folder)
         if not asked.without_rust:
             rust_tests(known)
         manual(known, library, folder)
         page(known, folder, asked.without_rust)
-    print("the languages: all ran as they have to" + (", without Rust" if asked.without_rust else ""))
+    missing = [", without Rust"] * asked.without_rust + [", without AddressSanitizer"] * (not is_sanitized)
+    print("the languages: all ran as they have to" + "".join(missing))
 
 
 if __name__ == "__main__":

@@ -1,20 +1,27 @@
 """Each public call, and what a careless caller does: a clear error, and nothing lost."""
 
-import ctypes
 import doctest
 import gc
+import logging
 import os
 import pickle
+import random
 import signal
 import sys
 import threading
+import types
 import unittest
 import warnings
+import weakref
 from unittest import mock
 
 import skewguard
-from skewguard._engine import STATEMENTS
-from skewguard._layout import Operation
+from skewguard._layout import Operation, Status
+
+import faulty
+
+# So many prepared statements are kept.
+STATEMENTS = 256
 
 DEFINITIONS = """
 CREATE TABLE DUTY (ID INTEGER PRIMARY KEY, DOCTOR VARCHAR(10), ONCALL INTEGER NOT NULL);
@@ -23,6 +30,8 @@ CREATE ASSERTION ONCE CHECK (NOT EXISTS (SELECT DOCTOR FROM DUTY GROUP BY DOCTOR
 INSERT INTO DUTY VALUES (1, 'KIM', 1);
 INSERT INTO DUTY VALUES (2, 'O''HARA', 0);
 """
+
+NEEDS_FAULTS = unittest.skipUnless(faulty.library, "no C compiler for the library with faults")
 
 INSERT = "INSERT INTO DUTY VALUES (?, ?, ?)"
 ALL = "SELECT * FROM DUTY"
@@ -33,34 +42,6 @@ def load_tests(loader, tests, _):
     """The tests here, and the examples in the text of the modules."""
     tests.addTests(doctest.DocTestSuite(skewguard.rows))
     return tests
-
-
-class Deaf:
-    """A library that has no memory for so many replies."""
-
-    def __init__(self, library, times):
-        self.library, self.times = library, times
-
-    def skewguard_library_call(self, *arguments):
-        status = self.library.skewguard_library_call(*arguments)
-        if not self.times:
-            return status
-        self.times -= 1
-        ctypes.c_size_t.from_address(arguments[-1]).value = 0
-        return 3
-
-
-class Full:
-    """A library that has no memory for an operation."""
-
-    def __init__(self, library, operation):
-        self.library, self.operation = library, operation
-
-    def skewguard_library_call(self, *arguments):
-        if arguments[1] != self.operation:
-            return self.library.skewguard_library_call(*arguments)
-        ctypes.c_size_t.from_address(arguments[-1]).value = 0
-        return 2
 
 
 class Calls(unittest.TestCase):
@@ -100,6 +81,98 @@ class Calls(unittest.TestCase):
         self.assertEqual(pickle.loads(pickle.dumps(row))["DOCTOR"], "KIM")
         with self.assertRaisesRegex(KeyError, "no column 'NAME'; there are ID, DOCTOR"):
             row["NAME"]
+
+    def test_rows_by_name(self):
+        with self.manager.transaction() as t:
+            rows = t.execute("SELECT DOCTOR, ID FROM DUTY")
+            named = [(row.DOCTOR, row.ID, row["doctor"]) for row in rows]
+            self.assertEqual(named, [("KIM", 1, "KIM"), ("O'HARA", 2, "O'HARA")])
+            self.assertEqual((rows.keys(), rows.first().keys()), (("DOCTOR", "ID"), ("DOCTOR", "ID")))
+            self.assertEqual(dict(rows.first()), {"DOCTOR": "KIM", "ID": 1})
+            with self.assertRaises(AttributeError):
+                rows.first().ONCALL
+            with self.assertRaises(AttributeError):
+                rows.first().ID = 7
+            self.assertEqual((rows.scalar(), t.execute(ALL).scalar()), ("KIM", 1))
+            none = t.execute("SELECT ID FROM DUTY WHERE ID = 7")
+            self.assertEqual((none.first(), none.scalar(), none.keys()), (None, None, ("ID",)))
+            twice = t.execute("SELECT ID, ID, DOCTOR FROM DUTY").first()
+            self.assertEqual((twice, twice.ID, twice.DOCTOR), ((1, 1, "KIM"), 1, "KIM"))
+        definitions = "CREATE TABLE T (COUNT2 INTEGER PRIMARY KEY, INDEX INTEGER, KEYS INTEGER, COLUMNS INTEGER);"
+        with skewguard.open(f"{definitions} INSERT INTO T VALUES (1, 2, 3, 4);") as manager:
+            row = manager.run(lambda t: t.execute("SELECT * FROM T")).first()
+            self.assertEqual((row.COUNT2, row.INDEX, row.KEYS, row.COLUMNS), (1, 2, 3, 4))
+            self.assertEqual((row.index(3), row.count(3), len(row.keys()), row.columns[1]), (2, 1, 4, "INDEX"))
+
+    def test_a_result_is_true_where_there_are_rows(self):
+        with self.manager.transaction() as t:
+            truths = {
+                "UPDATE DUTY SET ONCALL = 1": True,
+                "UPDATE DUTY SET ONCALL = 1 WHERE ID = 7": False,
+                "INSERT INTO DUTY VALUES (3, NULL, 1)": True,
+                "DELETE FROM DUTY WHERE ID = 3": True,
+                "DELETE FROM DUTY WHERE ID = 4": False,
+                "SELECT * FROM DUTY WHERE ID = 1": True,
+                "SELECT * FROM DUTY WHERE ID = 4": False,
+                "VERDICT COVERED": True,
+                "SET CONSTRAINTS ALL IMMEDIATE": True,
+                "COMMIT": True,
+            }
+            self.assertEqual({text: bool(t.execute(text)) for text in truths}, truths)
+        deferred = DEFINITIONS.replace(">= 1);", ">= 1) INITIALLY DEFERRED;")
+        with skewguard.open(deferred) as manager, manager.transaction() as t:
+            t.execute("UPDATE DUTY SET ONCALL = 0")
+            self.assertFalse(t.execute("VERDICT COVERED"))
+            t.execute("DELETE FROM DUTY")
+            self.assertFalse(t.execute("VERDICT COVERED"))  # unknown, of which nobody can be sure
+            self.assertEqual(t.execute(ALL).first(), None)
+            t.rollback()
+
+    def test_results_are_shown_and_pickled(self):
+        with self.manager.transaction() as t:
+            shown = [repr(t.execute(text)) for text in (ALL, "DELETE FROM DUTY WHERE ID = 2", "VERDICT ONCE")]
+            rows = t.execute(ALL)
+            changed = t.execute("SET CONSTRAINTS ALL DEFERRED")
+        words = ("SELECT, 2 rows", "DELETE, 1 row", "VERDICT true")
+        self.assertEqual(shown, [f"<skewguard.Result {it}>" for it in words])
+        self.assertEqual(repr(changed), "<skewguard.Result SET CONSTRAINTS>")
+        copied = pickle.loads(pickle.dumps(rows))
+        self.assertEqual((list(copied), copied.count, copied.kind), (list(rows), 1, "SELECT"))
+        self.assertEqual((copied.columns, copied.first().DOCTOR), (rows.columns, "KIM"))
+
+    def test_set_constraints(self):
+        definitions = DEFINITIONS.replace(">= 1);", ">= 1) DEFERRABLE;")
+        with skewguard.open(definitions) as manager:
+            with manager.transaction() as t:
+                t.set_constraints("COVERED", deferred=True)
+                t.execute("UPDATE DUTY SET ONCALL = 0")
+                with self.assertRaises(skewguard.RuleViolated):
+                    t.set_constraints(deferred=False)
+                t.execute("UPDATE DUTY SET ONCALL = 2 WHERE ID = 1")
+                t.set_constraints("COVERED", deferred=False)
+                with self.assertRaises(skewguard.RuleViolated):
+                    t.execute("UPDATE DUTY SET ONCALL = 0")
+                t.set_constraints(deferred=True)
+                with self.assertRaises(skewguard.ProgrammingError) as caught:
+                    t.set_constraints("COVERED", "ONCE", deferred=True)
+                self.assertEqual(caught.exception.number, 11)
+            with self.assertRaises(skewguard.InterfaceError):
+                t.set_constraints(deferred=True)
+
+    def test_transactions_and_managers_tell_their_state(self):
+        t = self.manager.transaction(session="kim")
+        self.assertEqual(repr(t), "<skewguard.Transaction of kim not begun>")
+        with t as t:
+            self.assertEqual(repr(t), "<skewguard.Transaction of kim open, on 0 commits>")
+            self.assertEqual(repr(self.manager), "<skewguard.Manager open, 1 transaction>")
+        self.assertEqual(repr(t), "<skewguard.Transaction of kim has committed as 1>")
+        other = self.manager.begin()
+        self.assertEqual(repr(other), "<skewguard.Transaction open, on 1 commits>")
+        other.rollback()
+        self.assertEqual(repr(other), "<skewguard.Transaction was rolled back>")
+        self.assertEqual(repr(self.manager), "<skewguard.Manager open, 0 transactions>")
+        self.manager.close()
+        self.assertEqual(repr(self.manager), "<skewguard.Manager closed>")
 
     def test_values_come_back_as_they_were_given(self):
         most = 10**15
@@ -268,6 +341,52 @@ class Calls(unittest.TestCase):
             self.manager.run(leave)
         self.assertEqual(len(attempts), 1)
 
+    def test_parameters_reach_the_function(self):
+        def seen(t, first, *, retry=0, session=None, read_only="no"):
+            return first, retry, session, read_only
+
+        run = self.manager.transaction(retry=1, session="KIM", read_only=True).run
+        self.assertEqual(run(seen, 1, retry=7, session="S", read_only=False), (1, 7, "S", False))
+        self.assertEqual(self.manager.transaction()(seen)(2, retry=8), (2, 8, None, "no"))
+        for options in ({"retry": 7}, {"session": "S"}, {"read_only": True}):
+            (name,) = options
+            with self.assertRaisesRegex(TypeError, f"seen has a parameter {name} of its own"):
+                self.manager.run(seen, 1, **options)
+        self.assertEqual(self.manager.run(seen, 1), (1, 0, None, "no"))
+        self.assertEqual(self.manager.run(lambda t, function: function, "mine"), "mine")
+        with self.manager.transaction() as t, self.assertRaisesRegex(skewguard.InterfaceError, "runs no function"):
+            t.run(seen, 1)
+        self.assertIn("1 KIM SNAPSHOT", self.manager.report())
+
+    def test_a_log_is_told(self):
+        log = logging.getLogger("skewguard.test")
+        with self.assertLogs(log, "DEBUG") as logged, skewguard.open(DEFINITIONS, log=log) as manager:
+            first = manager.begin(session="KIM")
+            first.execute("UPDATE DUTY SET ONCALL = 2 WHERE ID = 1")
+
+            def change(t):
+                t.execute("UPDATE DUTY SET ONCALL = 3 WHERE ID = 1")
+                if not first.number:
+                    first.commit()
+
+            manager.transaction(session="LEE", retry=1).run(change)
+        told = [(record.levelname, record.getMessage()) for record in logged.records]
+        self.assertEqual(told[0], ("DEBUG", "KIM: BEGIN 0"))
+        self.assertEqual(told[5], ("INFO", "LEE: REFUSED 12 40001 DUTY 1 BY 1"))
+        self.assertEqual(told[6][0], "INFO")
+        self.assertTrue(told[6][1].startswith("run again: commit 1 has changed"), told[6])
+        self.assertEqual(told[-1], ("DEBUG", "LEE: COMMIT 2"))
+
+    def test_a_log_beside_a_trace_and_one_that_wants_less(self):
+        log, told = logging.getLogger("skewguard.test"), []
+        with self.assertLogs(log, "INFO") as logged, skewguard.open(DEFINITIONS, log=log, trace=told.append) as manager:
+            with manager.transaction(session="KIM") as t, self.assertRaises(skewguard.RuleViolated):
+                t.execute("UPDATE DUTY SET ONCALL = 0")
+        self.assertEqual([record.getMessage() for record in logged.records], ["KIM: REFUSED 10 23000 COVERED ALL"])
+        self.assertEqual(told, ["KIM: BEGIN 0", "KIM: REFUSED 10 23000 COVERED ALL", "KIM: COMMIT 1"])
+        with self.assertRaises(TypeError):
+            skewguard.open(DEFINITIONS, log=print)
+
     def test_a_transaction_in_front_of_a_function(self):
         @self.manager.transaction(retry=3)
         def put(t, key, *, doctor):
@@ -285,6 +404,16 @@ class Calls(unittest.TestCase):
         for retry in (-1, True, "3", 1.0):
             with self.assertRaises((TypeError, ValueError)):
                 self.manager.run(lambda t: None, retry=retry)
+
+    def test_only_a_manager_makes_transactions(self):
+        with self.assertRaises(TypeError):
+            skewguard.Transaction()
+        t = self.manager.begin()
+        self.assertIs(weakref.ref(t)(), t)
+        t.commit()
+        for name in ("snapshot", "number", "other"):
+            with self.assertRaises(AttributeError):
+                setattr(t, name, 7)
 
     def test_run_takes_no_coroutine(self):
         async def leave(t):
@@ -372,7 +501,7 @@ class Calls(unittest.TestCase):
             for value in (True, 1.0, b"KIM", bytearray(b"KIM"), object(), [1], 1j):
                 with self.assertRaisesRegex(TypeError, "value 3 is"):
                     t.execute(INSERT, [3, "LEE", value])
-            for values in ("KIM", b"KIM", {"a": 1}, {1}, 7, None):
+            for values in ("KIM", b"KIM", bytearray(b"K"), {1}, frozenset([1]), 7, None):
                 with self.assertRaisesRegex(TypeError, "values come as a list or a tuple"):
                     t.execute("DELETE FROM DUTY WHERE ID = ?", values)
             for sql in (b"SELECT", None, 7, ["SELECT"]):
@@ -398,6 +527,75 @@ class Calls(unittest.TestCase):
             self.assertEqual(caught.exception.parameter, 1)
             self.assertIn("IS NULL", str(caught.exception))
         self.assertEqual(self.rows(), BEGINNING)
+
+    def test_values_in_any_collection(self):
+        class Text(str):
+            pass
+
+        with self.manager.transaction() as t:
+            for key, values in enumerate((iter([3, "A", 0]), dict.fromkeys([4, "B", 0]).keys(), range(5, 8)), 3):
+                if key < 5:
+                    self.assertEqual(t.execute(Text(INSERT), values).count, 1)
+            self.assertEqual(t.execute("SELECT ID FROM DUTY WHERE ID = ? OR ID = ? OR ID = ?", range(3, 6)).count, 2)
+            self.assertEqual(t.execute(sql="SELECT * FROM DUTY WHERE DOCTOR = ?", values=[Text("A")]).count, 1)
+            self.assertEqual(t.execute("SELECT * FROM DUTY WHERE ID = ?", values=(4,)).count, 1)
+            for wrong in ((), (ALL, (), 7)):
+                with self.assertRaises(TypeError):
+                    t.execute(*wrong)
+            t.rollback()
+
+    def test_values_by_name(self):
+        with self.manager.transaction() as t:
+            new = {"id": 3, "doctor": "LEE", "oncall": 0, "hired": "never read"}
+            self.assertEqual(t.execute("INSERT INTO DUTY VALUES (:id, :doctor, :oncall)", new).count, 1)
+            text = "SELECT ID FROM DUTY WHERE ID >= :low AND ID <= :low+1 OR ID=:id --:none here, 'nor ?\n AND ID = :id"
+            self.assertEqual([row.ID for row in t.execute(text, {"low": 1, "id": 3})], [1, 2, 3])
+            quoted = "SELECT ID FROM DUTY WHERE DOCTOR = ':id' OR DOCTOR = 'O''HARA :id ?' OR DOCTOR = :ID"
+            self.assertEqual(len(t.execute(quoted, types.MappingProxyType({"ID": "O'HARA"}))), 1)
+            self.assertEqual(len(t.execute(ALL, {"unused": 1})), 3)
+            with self.assertRaisesRegex(skewguard.ParameterError, "there is no value for :low") as caught:
+                t.execute(text, {"id": 3})
+            self.assertEqual(caught.exception.parameter, 1)
+            with self.assertRaisesRegex(skewguard.ParameterError, "the statement has `\\?`: write `:name`"):
+                t.execute("SELECT * FROM DUTY WHERE ID = ? OR ID = :id", {"id": 1})
+            with self.assertRaises(skewguard.ProgrammingError) as caught:
+                t.execute("SELECT * FROM DUTY WHERE ID = :id", [1])
+            self.assertEqual(caught.exception.column, 31)
+            with self.assertRaises(skewguard.ProgrammingError) as caught:
+                t.execute("SELECT * FROM DUTY\nWHERE ID = :number AND", {"number": 1})
+            self.assertEqual((caught.exception.line, caught.exception.column), (2, 23))
+            for text in ("SELECT * FROM DUTY WHERE DOCTOR = 'a :id", "SELECT :", "SELECT * FROM DUTY WHERE ID = ID:id"):
+                with self.assertRaises(skewguard.ProgrammingError):
+                    t.execute(text, {"id": 1})
+            for value in (1.5, True, b"x"):
+                with self.assertRaises(TypeError):
+                    t.execute("SELECT * FROM DUTY WHERE ID = :id", {"id": value})
+            t.rollback()
+
+    def test_names_and_places_mean_the_same(self):
+        """Wherever parameters stand among quotes, comments and blanks of all kinds."""
+        chance = random.Random(7)
+        gaps = (" ", "\n", "\t ", "\r\n", " -- it's :p0 ?\n", "--\n", "-- ' \r :p1 ?\n ", " --'\n--?\n")
+        quoted = ("KIM", "?", ":p0", "--", "O''HARA", "''", "''--:p0''", "", " :", ":p1''?")
+
+        def condition():
+            """The parts of a random condition; None stands for a parameter."""
+            terms = [[chance.choice(("ID", "ONCALL")), chance.choice(("=", "<", "<>", ">=")), None]]
+            terms.append(["DOCTOR", chance.choice(("=", "<>")), f"'{chance.choice(quoted)}'"])
+            terms.append(["ID", "IN", "(", None, ",", "7", ",", None, ")"])
+            chance.shuffle(terms)
+            joined = [[*term, chance.choice(("AND", "OR", "AND NOT"))] for term in terms]
+            return [*"SELECT * FROM DUTY WHERE".split(), *[part for term in joined for part in term], "ID", "<", None]
+
+        with self.manager.transaction() as t:
+            for _ in range(300):
+                parts = [(part, chance.choice(gaps)) for part in condition()]
+                values = [chance.randrange(4) for part, _ in parts if part is None]
+                names = iter(f"p{place}" for place in range(len(values)))
+                by_place = "".join(("?" if part is None else part) + gap for part, gap in parts)
+                by_name = "".join((f":{next(names)}" if part is None else part) + gap for part, gap in parts)
+                found = t.execute(by_name, {f"p{place}": value for place, value in enumerate(values)})
+                self.assertEqual(list(found), list(t.execute(by_place, values)), by_name)
 
     def test_too_many_and_too_few_values(self):
         with self.manager.transaction() as t:
@@ -480,13 +678,24 @@ class Calls(unittest.TestCase):
             t.rollback()
 
     def test_a_forgotten_transaction_is_rolled_back(self):
-        with self.assertWarns(ResourceWarning):
-            t = self.manager.begin()
-            t.execute("DELETE FROM DUTY WHERE ID = 2")
+        t = self.manager.begin()
+        t.execute("DELETE FROM DUTY WHERE ID = 2")
+        with self.assertWarnsRegex(ResourceWarning, "a transaction was forgotten, and is rolled back"):
             del t
             gc.collect()
+            self.manager.checkpoint()  # which is refused while a transaction is open
         self.assertEqual(self.rows(), BEGINNING)
-        self.manager.checkpoint()  # which is refused while a transaction is open
+
+    def test_a_forgotten_transaction_where_warnings_are_errors(self):
+        with warnings.catch_warnings(), mock.patch.object(sys, "excepthook") as shown:
+            warnings.simplefilter("error", ResourceWarning)
+            with mock.patch.object(sys, "unraisablehook") as dropped:
+                self.manager.begin()
+                gc.collect()
+                self.assertEqual(self.rows(), BEGINNING)
+        kinds = [call.args[0] for call in shown.call_args_list]
+        kinds += [call.args[0].exc_type for call in dropped.call_args_list]
+        self.assertEqual(kinds, [ResourceWarning])
 
     def test_a_transaction_that_is_collected_in_the_midst_of_a_call(self):
         told, held = [], []
@@ -505,17 +714,34 @@ class Calls(unittest.TestCase):
         lines = ["PYTHON1: BEGIN 0", "A: BEGIN 0", "PYTHON1: ROLLBACK", "A: COMMIT 1"]
         self.assertEqual(told, lines)
 
+    @NEEDS_FAULTS
     def test_a_forgotten_manager_gives_its_memory_back(self):
+        before = faulty.open_libraries()
         manager = skewguard.open(DEFINITIONS)
-        finalizer = manager._engine._finalizer
         t = manager.begin()
         del manager
         gc.collect()
         self.assertEqual(len(t.execute(ALL)), 2)  # a transaction keeps its manager
         t.commit()
+        self.assertEqual(faulty.open_libraries(), before + 1)
         del t
         gc.collect()
-        self.assertFalse(finalizer.alive)
+        self.assertEqual(faulty.open_libraries(), before)
+
+    @NEEDS_FAULTS
+    def test_a_manager_in_a_circle_gives_its_memory_back(self):
+        class Service:
+            def __init__(self):
+                self.manager = skewguard.open(DEFINITIONS, trace=self.hear)
+                self.t = self.manager.begin()
+
+            def hear(self, line):
+                self.line = line
+
+        before = faulty.open_libraries()
+        Service().t.commit()
+        gc.collect()
+        self.assertEqual(faulty.open_libraries(), before)
 
     def test_a_trace_may_not_call_and_may_fail(self):
         told = []
@@ -533,32 +759,50 @@ class Calls(unittest.TestCase):
 
     @unittest.skipUnless(hasattr(signal, "setitimer"), "no timer")
     def test_a_handler_of_a_signal_does_not_wait_for_itself(self):
-        answers = []
+        """In the midst of a call it is refused. The implementation in C has no such midst."""
+        answers = set()
 
         def handle(*_):
             try:
                 self.manager.report()
-                answers.append("report")
-            except skewguard.InterfaceError:
-                answers.append("in the midst of a call")
+                answers.add("report")
+            except skewguard.InterfaceError as refused:
+                answers.add(str(refused))
 
         before = signal.signal(signal.SIGALRM, handle)
         try:
             signal.setitimer(signal.ITIMER_REAL, 0.001, 0.001)
             for _ in range(10_000):
                 self.manager.begin().rollback()
-                if len(set(answers)) == 2:
+                if len(answers) == 2:
                     break
         finally:
             signal.setitimer(signal.ITIMER_REAL, 0)
             signal.signal(signal.SIGALRM, before)
-        self.assertIn("in the midst of a call", answers)
+        midst = "a trace, or a signal's handler, may not call the manager in the midst of a call"
+        self.assertEqual(answers, {"report", midst} if skewguard.IMPLEMENTATION == "ctypes" else {"report"})
 
+    @NEEDS_FAULTS
     def test_more_texts_than_are_kept(self):
+        texts = [f"SELECT * FROM DUTY WHERE ID = {number}" for number in range(2 * STATEMENTS)]
+
+        def prepared_and_forgotten():
+            return faulty.calls(Operation.PREPARE), faulty.calls(Operation.FORGET)
+
         with self.manager.transaction() as t:
-            for number in range(2 * STATEMENTS):
-                self.assertEqual(len(t.execute(f"SELECT * FROM DUTY WHERE ID = {number}")), number in (1, 2))
-            self.assertEqual(len(self.manager._engine._statements), STATEMENTS)
+            prepared_and_forgotten()
+            for number, text in enumerate(texts):
+                self.assertEqual(len(t.execute(text)), number in (1, 2))
+            self.assertEqual(prepared_and_forgotten(), (2 * STATEMENTS, STATEMENTS))
+            for text in texts[STATEMENTS:]:
+                t.execute(text)
+            self.assertEqual(prepared_and_forgotten(), (0, 0))
+            t.execute(texts[0])  # in the place of that which was used longest ago
+            for text in texts[STATEMENTS + 1 :]:
+                t.execute(text)
+            self.assertEqual(prepared_and_forgotten(), (1, 1))
+            self.assertEqual(len(t.execute(texts[STATEMENTS])), 0)
+            self.assertEqual(prepared_and_forgotten(), (1, 1))
 
     def test_a_reply_beyond_the_buffer(self):
         with self.manager.transaction() as t:
@@ -568,18 +812,14 @@ class Calls(unittest.TestCase):
             self.assertEqual((len(rows), rows[-1]), (999, (999, "D999", 0)))
         self.assertEqual(len(self.rows()), 999)
 
+    @NEEDS_FAULTS
     def test_a_call_without_memory(self):
-        engine = self.manager._engine
-        library = engine._library
-        self.addCleanup(setattr, engine, "_library", library)
-
         def refuse(operation, call):
-            engine._library = Full(library, operation)
-            with self.assertRaises(skewguard.NoMemory) as caught:
+            with faulty.answering(Status.NO_MEMORY, operation), self.assertRaises(skewguard.NoMemory) as caught:
                 call()
             self.assertIsInstance(caught.exception, MemoryError)
-            engine._library = library
 
+        refuse(faulty.OPEN, lambda: skewguard.open(DEFINITIONS))
         refuse(Operation.OPEN_SESSION, self.manager.begin)
         refuse(Operation.BEGIN, self.manager.begin)
         t = self.manager.begin()
@@ -595,37 +835,66 @@ class Calls(unittest.TestCase):
             with self.manager.transaction() as t:
                 t.execute("DELETE FROM DUTY WHERE ID = 3")
 
+        faulty.calls(Operation.OPEN_SESSION)
         refuse(Operation.COMMIT, delete)
         self.assertEqual(len(self.rows()), 3)
-        self.assertEqual(len(engine._free), 1)
+        self.assertEqual(faulty.calls(Operation.OPEN_SESSION), 0)
 
+    @NEEDS_FAULTS
     def test_a_reply_without_memory(self):
-        engine, change = self.manager._engine, "UPDATE DUTY SET ONCALL = 1 WHERE ID = 1"
-        library = engine._library
-        self.addCleanup(setattr, engine, "_library", library)
+        change = "UPDATE DUTY SET ONCALL = 1 WHERE ID = 1"
         for t in [self.manager.begin(), self.manager.begin()]:
             t.commit()  # so that there are two sessions
+        faulty.calls(Operation.OPEN_SESSION)
+        new_texts = (f"DELETE FROM DUTY WHERE ID = {key}" for key in (2, 1))
         for call, error in (
             (lambda t: t.execute(change), skewguard.ReplyLost),
             (lambda t: t.rollback(), skewguard.ReplyLost),
             (lambda t: t.commit(), skewguard.ReplyLost),
-            (lambda t: t.execute("DELETE FROM DUTY WHERE ID = 2"), skewguard.NoMemory),  # it is not prepared
+            (lambda t: t.execute(next(new_texts)), skewguard.NoMemory),  # it is not prepared
             (lambda t: self.manager.begin(), skewguard.NoMemory),
         ):
-            t = self.manager.begin()
-            engine._library = Deaf(library, 1)  # the reply comes when it is asked for again
-            t.execute(change)
-            engine._library = Deaf(library, 10)
-            with self.assertRaises(error):
-                call(t)
-            engine._library = library
-            if error is skewguard.NoMemory:
-                t.commit()
-            with self.assertRaises(skewguard.InterfaceError):
+            for length in (0, 10**15):  # no reply has come, or there is no memory for one that is so long
+                t = self.manager.begin()
+                with faulty.answering(Status.REPLY_WAITS, times=1, length=length and 5000):
+                    t.execute(change)  # the reply comes when it is asked for again
+                with faulty.answering(Status.REPLY_WAITS, times=10, length=length), self.assertRaises(error):
+                    call(t)
+                if error is skewguard.NoMemory:
+                    t.commit()
+                with self.assertRaises(skewguard.InterfaceError):
+                    t.execute(ALL)
+                self.assertEqual(self.rows(), BEGINNING)
+        self.manager.checkpoint()  # which is refused while a transaction is open
+        self.assertEqual(faulty.calls(Operation.OPEN_SESSION), 0)
+
+    @NEEDS_FAULTS
+    def test_a_lost_reply_to_what_makes_something(self):
+        """A session or statement of which the reply was lost is none that nobody can close."""
+        with faulty.answering(Status.REPLY_WAITS), self.assertRaises(skewguard.NoMemory):
+            self.manager.begin(session="KIM")
+        with self.manager.transaction(session="KIM") as t:
+            with faulty.answering(Status.REPLY_WAITS), self.assertRaises(skewguard.NoMemory):
                 t.execute(ALL)
-            self.assertEqual(self.rows(), BEGINNING)
-        self.assertEqual(len(engine._free), 2)
-        self.assertFalse(engine._forgotten)
+            with faulty.answering(Status.REPLY_WAITS), self.assertRaises(skewguard.NoMemory):
+                t.execute(ALL)  # nor is there memory to hear what the call before has made
+            self.assertEqual(len(t.execute(ALL)), 2)
+        with faulty.answering(Status.REPLY_WAITS), self.assertRaises(skewguard.NoMemory):
+            skewguard.open(DEFINITIONS)
+        with faulty.answering(Status.REPLY_WAITS), self.assertRaises(skewguard.ReplyLost):
+            self.manager.checkpoint()
+
+    @NEEDS_FAULTS
+    def test_an_answer_that_is_none(self):
+        """Another library, or another version of it, is found out."""
+        with faulty.answering(0, Operation.AGAIN), self.assertRaisesRegex(skewguard.InterfaceError, "another one"):
+            skewguard.open(DEFINITIONS)
+        with faulty.answering(77, Operation.BEGIN), self.assertRaisesRegex(skewguard.InterfaceError, "status 77"):
+            self.manager.begin()
+        with self.manager.transaction() as t:
+            with faulty.answering(Status.BAD_REQUEST, Operation.RUN), self.assertRaises(skewguard.InterfaceError):
+                t.execute(ALL)
+            self.assertEqual(len(t.execute(ALL)), 2)
 
     @unittest.skipUnless(hasattr(os, "fork"), "no fork")
     def test_a_fork_leaves_the_manager_to_the_parent(self):

@@ -15,11 +15,14 @@
 
 An assertion is a rule over whole tables. No committed tables make one false, and the committed transactions have a
 serial order, whatever threads do. `Manager.run` runs a function's transaction again where others were in its way.
+`skewguard.dbapi` has the same by connections and cursors, as PEP 249 has them.
 """
 
+from ._backend import IMPLEMENTATION
 from .errors import (
     ALL,
     DangerousStructure,
+    DatabaseError,
     DataError,
     EpochFull,
     Error,
@@ -41,8 +44,10 @@ __version__ = "0.1.0"
 
 __all__ = [
     "ALL",
+    "IMPLEMENTATION",
     "DangerousStructure",
     "DataError",
+    "DatabaseError",
     "EpochFull",
     "Error",
     "IntegrityError",

@@ -1,43 +1,69 @@
-"""One opened library: its handle, its sessions and statements, and the lock round all of them."""
+"""The implementation over ctypes: one opened library with its sessions, statements and lock, and transactions on it.
+
+Python may be interrupted between any two of its instructions: by Ctrl-C, or by whatever a signal's handler raises. So
+what is noted here is noted in one step; in more than one, in an order in which each may be the last; and what a call
+has left that was cut short is brought to an end by the next one (`_settle`). No finalizer of a transaction is a Python
+function, since Python drops what is raised in one.
+"""
 
 from __future__ import annotations
 
-import contextlib
 import ctypes
+import itertools
 import os
 import sys
 import threading
+import warnings
 import weakref
 from collections import OrderedDict, deque
-from typing import Any, Callable, Deque, Dict, Iterable, List, NamedTuple, Optional, Tuple
+from ctypes import POINTER, c_char_p, c_int32, c_size_t, c_uint32, c_void_p
+from typing import (
+    Any,
+    Callable,
+    Deque,
+    Dict,
+    Iterable,
+    List,
+    Mapping,
+    NamedTuple,
+    Optional,
+    Tuple,
+    Type,
+    TypeVar,
+    Union,
+)
 
 from . import _library
 from ._layout import (
     COUNT,
     LAYOUT,
+    Fault,
     Kind,
     Operation,
     Reader,
+    State,
     Status,
-    counted,
     number_bytes,
     parameter_bytes,
     text_bytes,
 )
-from ._refusals import EPOCH_FULL, NO_TRANSACTION, no_memory, refusal
-from .errors import Error, InterfaceError, ParameterError, ProgrammingError, ReplyLost
+from ._refusals import EPOCH_FULL, NO_TRANSACTION, TOO_MANY_SESSIONS, error_of, tell
+from ._texts import taken
+from .errors import Error, OperationalError, ReplyLost, Value
 from .rows import Result, row_type
-
-MOST_COMMITS = 2**32 - 1
 
 # So many prepared statements are kept, those that were used last.
 STATEMENTS = 256
 
+T = TypeVar("T")
 Trace = Callable[[str], Any]
 
 # A reply that there was no memory for is asked for so often.
 FETCHES = 3
 REPLY_WAITS = Status.REPLY_WAITS
+
+# The length of a reply, while the library has not written any.
+UNANSWERED = 2**64 - 1
 
 # The SQLSTATEs of refusals that have ended their transaction: for others (40001), and for an assertion (40002).
 ENDING = ("40001", "40002")
@@ -56,20 +82,53 @@ _COUNTED = (Kind.INSERTED, Kind.UPDATED, Kind.DELETED)
 _TRUTHS = {0: False, 1: True, 2: None}
 
 
-class Seat:
-    """A session of the library while it has one transaction. Once that has ended the session may be another's.
+class Session:
+    """A session of the library, which has one transaction at a time.
 
-    session: its number, as bytes of a request.
-    ended: how the transaction ended; empty while it is open.
+    number: its number, as bytes of a request; empty while it is not open.
+    use: whose transaction it has; None where it has none. To set it is what gives the session away, or back.
     """
 
-    __slots__ = ("ended", "is_pooled", "number", "session")
+    __slots__ = ("is_pooled", "key", "number", "use")
 
-    def __init__(self, session: bytes, is_pooled: bool) -> None:
-        self.session = session
+    def __init__(self, key: str, is_pooled: bool) -> None:
+        self.key = key
         self.is_pooled = is_pooled
-        self.ended = ""
+        self.number = b""
+        self.use: Optional[Use] = None
+
+
+class Seat:
+    """What a transaction knows of itself.
+
+    session: its session. Once the transaction has ended that may be another's.
+    snapshot: how many commits its tables hold.
+    number: the number of its commit, once it has one.
+    """
+
+    __slots__ = ("number", "session", "snapshot", "state", "use")
+
+    def __init__(self) -> None:
+        self.state = State.NOT_BEGUN
+        self.session: Optional[Session] = None
+        self.use: Optional[Use] = None
+        self.snapshot: Optional[int] = None
         self.number: Optional[int] = None
+
+    def end(self, state: int) -> None:
+        """That it has ended so, unless it had ended before."""
+        if self.state <= State.OPEN:
+            self.state = state
+
+
+class Use(weakref.ref):  # type: ignore[type-arg]
+    """That an object has a session, for the transaction of a seat.
+
+    When the object goes, Python calls a function in C that puts this aside, so that no interrupt can come between.
+    """
+
+    __slots__ = ("seat",)
+    seat: Seat
 
 
 class Statement(NamedTuple):
@@ -77,112 +136,217 @@ class Statement(NamedTuple):
     parameters: int
 
 
+class Room(NamedTuple):
+    """Where a reply is written."""
+
+    buffer: Any
+    address: int
+    length: int
+
+
+def _room(length: int) -> Room:
+    buffer = ctypes.create_string_buffer(length)
+    return Room(buffer, ctypes.addressof(buffer), length)
+
+
+class Process:
+    """This process, of which a fork makes another one."""
+
+    number = 0
+
+    @classmethod
+    def is_child(cls) -> None:
+        cls.number += 1
+
+
+if hasattr(os, "register_at_fork"):
+    os.register_at_fork(after_in_child=Process.is_child)
+
+_loaded: Optional[ctypes.CDLL] = None
+
+
+def _load() -> ctypes.CDLL:
+    """The library, which is looked for once. Two threads that find it unloaded load the same, which changes nothing."""
+    global _loaded
+    if _loaded is None:
+        _loaded = _library.loaded_by(_loaded_from)
+    return _loaded
+
+
+def _loaded_from(name: str) -> ctypes.CDLL:
+    """The library of a file, with the types of its functions."""
+    library = ctypes.CDLL(name)
+    library.skewguard_library_open.argtypes = [c_char_p, c_size_t, POINTER(c_void_p)]
+    library.skewguard_library_open.restype = c_int32
+    library.skewguard_library_call.argtypes = [
+        c_void_p, c_uint32, c_char_p, c_size_t, c_void_p, c_size_t, c_void_p,
+    ]  # fmt: skip
+    library.skewguard_library_call.restype = c_int32
+    library.skewguard_library_close.argtypes = [c_void_p]
+    library.skewguard_library_close.restype = None
+    return library
+
+
+def _close_library(close: Callable[[c_void_p], None], handle: c_void_p, process: int) -> None:
+    # A child has a copy of what its parent's threads were about to change, and leaves it as it is.
+    if handle and process == Process.number:
+        close(handle)
+
+
 class Engine:
     """Calls of one opened library, one at a time.
 
-    What is collected by Python is put aside without the lock, and is rolled back at the next call: a collection may
-    come in the midst of a call, in the thread that holds the lock.
+    What was collected by Python, or cut short by an interrupt, is put aside without the lock, and is rolled back at the
+    next call: a collection may come in the midst of a call, in the thread that holds the lock.
     """
 
-    def __init__(self, definitions: str, max_commits: int, trace: Optional[Trace] = None) -> None:
-        if isinstance(max_commits, bool) or not isinstance(max_commits, int):
-            raise TypeError(f"max_commits is a number, not {type(max_commits).__name__}")
-        if not 1 <= max_commits <= MOST_COMMITS:
-            raise ValueError(f"max_commits is {max_commits}, and not from 1 to {MOST_COMMITS}")
-        if trace is not None and not callable(trace):
-            raise TypeError(f"trace is called with each line, and a {type(trace).__name__} can't be")
-        request = number_bytes(max_commits) + text_bytes(definitions)
-        self._library = _library.load()
+    # The type of its transactions, and what looks at how often one may be tried again.
+    transaction_type: Any
+    checked_retry: Callable[[int], int]
+
+    def __init__(self, request: bytes, definitions: str, trace: Optional[Trace]) -> None:
+        self._library = _load()
         self._lock = threading.RLock()
         self._trace = trace
-        self._why_closed = "the manager is closed"
+        self._process = Process.number
         self._statements: OrderedDict[str, Statement] = OrderedDict()
-        self._free: List[bytes] = []
-        self._named: Dict[str, bytes] = {}
-        self._pooled = 0
-        self._forgotten: Deque[Seat] = deque()
-        self._length = ctypes.c_size_t()
+        # By their names, the one that was used longest ago first.
+        self._sessions: OrderedDict[str, Session] = OrderedDict()
+        self._free: List[Session] = []
+        self._put_aside: Deque[Use] = deque()
+        self._unnoted: Optional[Tuple[Callable[[Any, bytes], None], Any]] = None
+        self._length = c_size_t()
         self._length_at = ctypes.addressof(self._length)
-        self._make_room(4096)
-        handle = ctypes.c_void_p()
+        self._room = _room(4096)
+        handle = c_void_p()
         self._handle: Optional[int] = None
-        if self._library.skewguard_library_open(request, len(request), ctypes.byref(handle)) != Status.DONE:
-            raise no_memory()
-        self._handle = handle.value
         # At the end of the process nothing is freed: another thread may be in a call.
-        self._finalizer = weakref.finalize(self, self._library.skewguard_library_close, self._handle)
+        close = self._library.skewguard_library_close
+        self._finalizer = weakref.finalize(self, _close_library, close, handle, self._process)
         self._finalizer.atexit = False
-        _engines.add(self)
+        if self._library.skewguard_library_open(request, len(request), ctypes.byref(handle)) != Status.DONE:
+            raise error_of(Status.NO_MEMORY, b"")
+        self._handle = handle.value
         try:
-            with self._lock:
-                opened = self._called(Operation.AGAIN, b"", definitions)
-            if opened[:1] != bytes([Kind.OPENED]) or Reader(opened).number() != LAYOUT:
-                raise InterfaceError("the library is another one than this package was written for")
+            self._serve(self._check_layout, definitions)
         except BaseException as error:
             self.close()
             if isinstance(error, ReplyLost):
-                raise no_memory() from None
+                raise error_of(Status.NO_MEMORY, b"") from None
+            raise
+
+    def _check_layout(self, definitions: str) -> None:
+        """What became of the definitions: the library has them, and is the one that this was written for."""
+        opened = self._called(Operation.AGAIN, b"", definitions)
+        if opened[:1] != bytes([Kind.OPENED]) or Reader(opened).number() != LAYOUT:
+            raise error_of(Fault.OTHER_LIBRARY, b"")
+
+    def transaction(self, *, read_only: bool = False, retry: int = 0, session: Optional[str] = None) -> Any:
+        """A transaction for a `with` block, or around a function.
+
+            with manager.transaction() as t:
+                t.execute("UPDATE DUTY SET ONCALL = 0 WHERE DOCTOR = ?", ["KIM"])
+
+        It begins with the block, commits at its end, and is rolled back where an exception leaves the block. The
+        COMMIT may raise RuleViolated, SerializationFailure, EpochFull and NoMemory; the transaction has ended then.
+
+            @manager.transaction(retry=3)
+            def leave(t, doctor):
+                t.execute("UPDATE DUTY SET ONCALL = 0 WHERE DOCTOR = ?", [doctor])
+
+        The function is then called as `leave("KIM")`, in a transaction of its own each time, as by `run`.
+
+        read_only: INSERT, UPDATE and DELETE are refused, and the transaction is refused less often.
+        retry: how many times more the function is run where others were in its way. A `with` block can't be run again,
+            so for one there is no retry.
+        session: the name under which the report tells of it, of any number of names; without one the manager gives it
+            one. 256 transactions may be open at once, and one more is an OperationalError (number 24).
+        """
+        return self.transaction_type(self, read_only, session, type(self).checked_retry(retry))
+
+    def _call(self, operation: int, request: bytes, text: Optional[str]) -> bytes:
+        """The reply to an operation with its request. A fault in the text is shown in it."""
+        return self._serve(self._called, operation, request, text)
+
+    @property
+    def closed(self) -> bool:
+        """Whether the manager was closed."""
+        return self._handle is None or self._process != Process.number
+
+    @property
+    def _open_transactions(self) -> int:
+        return 0 if self.closed else sum(session.use is not None for session in list(self._sessions.values()))
+
+    def close(self) -> None:
+        """Gives the memory back. Open transactions are lost. Later calls raise InterfaceError, but for this one."""
+        if not self.closed:
+            self._serve_if_open(self._close)
+        self._finalizer()
+
+    def _close(self) -> None:
+        self._handle = None
+
+    def _serve(self, call: Callable[..., T], *arguments: Any) -> T:
+        """What a call gives that is made under the lock, behind what earlier ones have left to do."""
+        answers = self._serve_if_open(call, *arguments)
+        if not answers:
+            raise error_of(Fault.CLOSED, b"")
+        return answers[0]
+
+    def _serve_if_open(self, call: Callable[..., T], *arguments: Any) -> Tuple[T, ...]:
+        """The same, as the one of a tuple; none where the library is closed."""
+        if self._process != Process.number:
+            raise error_of(Fault.OF_PARENT, b"")
+        lock = self._lock
+        if lock._is_owned():  # type: ignore[attr-defined]  # as threading.Condition asks its lock
+            raise error_of(Fault.CALLING, b"")
+        try:
+            with lock:
+                if self._handle is None:
+                    return ()
+                if self._unnoted or self._put_aside:
+                    self._settle()
+                return (call(*arguments),)
+        except BaseException:
+            # Python 3.9 may be interrupted at the end of the block, before the lock is released.
+            if lock._is_owned():  # type: ignore[attr-defined]
+                lock.release()
             raise
 
     # -- calls of the library; the lock is held
 
-    def _make_room(self, length: int) -> None:
-        self._buffer: Any = ctypes.create_string_buffer(length)
-        self._buffer_at = ctypes.addressof(self._buffer)
-        self._room = length
-
     def _answered(self, operation: int, request: bytes) -> Tuple[int, bytes]:
         """The status of a call and a copy of its reply."""
-        handle = self._handle
-        if handle is None:
-            raise InterfaceError(self._why_closed)
+        buffer, address, room = self._room
         call = self._library.skewguard_library_call
-        status = call(handle, operation, request, len(request), self._buffer_at, self._room, self._length_at)
+        status = call(self._handle, operation, request, len(request), address, room, self._length_at)
         length = self._length.value
-        if length > self._room or status == REPLY_WAITS:
-            status, length = self._fetched(Operation.LINE if operation == Operation.LINE else Operation.AGAIN, length)
-        return status, self._buffer[:length]
+        if length > room or status == REPLY_WAITS:
+            return self._fetched(Operation.LINE if operation == Operation.LINE else Operation.AGAIN, length)
+        return status, buffer[:length]
 
-    def _fetched(self, operation: int, length: int) -> Tuple[int, int]:
-        """The status and the length of a reply that has not come yet; REPLY_WAITS where there is no memory for it."""
+    def _fetched(self, operation: int, length: int) -> Tuple[int, bytes]:
+        """The status and a copy of a reply that has not come yet; REPLY_WAITS where there is no memory for it."""
         call = self._library.skewguard_library_call
         for _ in range(FETCHES):
             try:
-                if length > self._room:
-                    self._make_room(2 * length)
-            except MemoryError:
+                if length > self._room.length:
+                    self._room = _room(2 * length)
+                buffer, address, room = self._room
+                status = call(self._handle, operation, b"", 0, address, room, self._length_at)
+                length = self._length.value
+                if length <= room and status != REPLY_WAITS:
+                    return status, buffer[:length]
+            except (MemoryError, OverflowError):
                 break
-            status = call(self._handle, operation, b"", 0, self._buffer_at, self._room, self._length_at)
-            length = self._length.value
-            if length <= self._room and status != REPLY_WAITS:
-                return status, length
-        return REPLY_WAITS, 0
+        return REPLY_WAITS, b""
 
-    def _called(self, operation: int, request: bytes, text: Optional[str] = None) -> bytes:
+    def _called(self, operation: int, request: bytes, text: Optional[str]) -> bytes:
         """The reply of a call that was done. What was refused raises; a fault in a text is shown in it."""
         status, reply = self._answered(operation, request)
         if status:
-            raise self._error(status, reply, text)
+            raise error_of(status, reply, text)
         return reply
-
-    @staticmethod
-    def _error(status: int, reply: bytes, text: Optional[str]) -> Error:
-        if status == Status.REFUSED:
-            return refusal(reply, text)
-        if status == Status.NO_MEMORY:
-            return no_memory()
-        if status == REPLY_WAITS:
-            return ReplyLost("the call was answered, but there was no memory for its reply")
-        number = Reader(reply).number() if reply and reply[0] == Kind.MISUSED else 0
-        if status == Status.WRONG_COUNT:
-            return ParameterError(f"the statement has {number} parameters")
-        if status == Status.BAD_VALUE:
-            error = ParameterError(f"value {number} may not stand there: for NULL a condition says IS NULL")
-            error.parameter = number
-            return error
-        if status == Status.BAD_NAME:
-            return ProgrammingError("a name is a letter, then letters, digits, _, 128 at most, and no reserved word")
-        return InterfaceError(f"the library answers with the status {status}")
 
     def _event(self, operation: int, request: bytes, text: Optional[str] = None) -> bytes:
         """The reply to an event, of which the trace is told, also where it was refused."""
@@ -190,152 +354,237 @@ class Engine:
         if self._trace is not None and status <= Status.REFUSED:
             self._tell(self._trace)
         if status:
-            raise self._error(status, reply, text)
+            raise error_of(status, reply, text)
         return reply
 
     def _tell(self, trace: Trace) -> None:
-        """Hands the line of the last answer on.
-
-        The event has been: what the trace raises is shown and stops nothing, and without memory the trace lacks a
-        line.
-        """
+        """Hands the line of the last answer on. Without memory it is lacking: the event has been."""
         _, reply = self._answered(Operation.LINE, b"")  # its status is the event's own
-        if reply[:1] != bytes([Kind.TEXT]):
+        if reply[:1] == bytes([Kind.TEXT]):
+            tell(trace, Reader(reply).text())
+
+    # -- what the library makes, and has to be noted; the lock is held
+
+    def _make(
+        self, operation: int, request: bytes, text: Optional[str], note: Callable[[Any, bytes], None], what: Any
+    ) -> None:
+        """Has the library make something, or unmake it, and notes by its reply what has become of it."""
+        self._length.value = UNANSWERED
+        self._unnoted = (note, what)
+        status, reply = self._answered(operation, request)
+        if status == REPLY_WAITS:  # the reply is asked for again by the next call
+            raise error_of(Status.NO_MEMORY, b"")
+        if not status:
+            note(what, reply)
+        self._unnoted = None
+        if status:
+            raise error_of(status, reply, text)
+
+    def _settle(self) -> None:
+        """Brings to an end what was cut short, or forgotten."""
+        if self._unnoted:
+            self._note_last()
+        while self._put_aside:
+            self._roll_back(self._put_aside[0])
+            self._put_aside.popleft()
+
+    def _note_last(self) -> None:
+        """Notes what the last call has made, if the library was reached."""
+        assert self._unnoted is not None
+        note, what = self._unnoted
+        if self._length.value != UNANSWERED:
+            status, reply = self._answered(Operation.AGAIN, b"")
+            if status == REPLY_WAITS:
+                raise error_of(Status.NO_MEMORY, b"")
+            if not status:
+                note(what, reply)
+        self._unnoted = None
+
+    def _roll_back(self, use: Use) -> None:
+        """Ends the transaction of a use, if it is still that of its session.
+
+        It may have ended in a call that was cut short. The library then refuses the ROLLBACK, and nobody is told.
+        """
+        seat, session = use.seat, use.seat.session
+        if session is None or session.use is not use:
             return
+        if seat.state == State.OPEN:
+            seat.state = State.LOST
+            self._warn(use)
+        status, _ = self._answered(Operation.ROLLBACK, session.number)
+        if self._trace is not None and status == Status.DONE:
+            self._tell(self._trace)
+        self._end(seat, State.ENDED)
+
+    @staticmethod
+    def _warn(use: Use) -> None:
+        """Warns of a forgotten transaction. Where warnings are errors it is shown, and stops nothing."""
         try:
-            trace(Reader(reply).text().rstrip("\n"))
+            words = "a transaction was forgotten, and is rolled back"
+            warnings.warn(words, ResourceWarning, stacklevel=2, source=use)
         except Exception:
             sys.excepthook(*sys.exc_info())
 
-    def _enter(self, seat: Optional[Seat] = None) -> None:
-        """What each call does first, under the lock. Forgotten transactions end; that of the seat has to be open."""
-        if self._handle is None:
-            raise InterfaceError(self._why_closed)
-        if self._forgotten:
-            self._end_forgotten()
-        if seat is not None and seat.ended:
-            raise InterfaceError(f"the transaction {seat.ended}")
+    # -- sessions; the lock is held
 
-    def _end_forgotten(self) -> None:
-        while self._forgotten:
-            forgotten = self._forgotten.popleft()
-            if not forgotten.ended:
-                with contextlib.suppress(Error):
-                    self._event(Operation.ROLLBACK, forgotten.session)
-                self._end(forgotten, "was forgotten, and rolled back")
+    def _session(self, name: Optional[str]) -> Session:
+        """The session of the name, or one that no transaction uses."""
+        if name is None:
+            return self._pooled_session()
+        key = name.upper() if name.isascii() else name
+        session = self._sessions.get(key)
+        if session is None:
+            session = self._opened(Session(key, False), name)
+        elif session.is_pooled:
+            raise error_of(Fault.POOLED, b"", name)
+        return session
 
-    def _hold(self) -> threading.RLock:
-        """The lock, unless this thread is in the midst of a call: no call of a library may stand in another one."""
-        if self._lock._is_owned():  # type: ignore[attr-defined]  # as threading.Condition asks its lock
-            raise InterfaceError("a trace, or a signal's handler, may not call the manager in the midst of a call")
-        return self._lock
+    def _pooled_session(self) -> Session:
+        while self._free:
+            session = self._free[-1]
+            if session.use is None and session.number:
+                return session
+            self._free.pop()  # it was closed, or given away in a call that was cut short
+        name = next(name for name in map("PYTHON{}".format, itertools.count(1)) if name not in self._sessions)
+        return self._opened(Session(name, True), name)
 
-    # -- sessions
+    def _opened(self, session: Session, name: str) -> Session:
+        """The session of a new name. Where as many are open as may be, one without a transaction makes room."""
+        request = text_bytes(name)
+        try:
+            self._make(Operation.OPEN_SESSION, request, None, self._note_session, session)
+        except OperationalError as error:
+            if error.number != TOO_MANY_SESSIONS or not self._close_idle():
+                raise
+            self._make(Operation.OPEN_SESSION, request, None, self._note_session, session)
+        return session
 
-    def _seat(self, name: Optional[str]) -> Seat:
-        """A seat in the session of the name, or in one that no transaction uses."""
-        if name is not None:
-            key = name.upper() if name.isascii() else name
-            if key not in self._named:
-                self._named[key] = self._opened(name)
-            return Seat(self._named[key], False)
-        if not self._free:
-            self._pooled += 1
-            while f"PYTHON{self._pooled}" in self._named:
-                self._pooled += 1
-            self._free.append(self._opened(f"PYTHON{self._pooled}"))
-        return Seat(self._free.pop(), True)
+    def _note_session(self, session: Session, reply: bytes) -> None:
+        session.number = reply[1:9]
+        self._sessions[session.key] = session
+        if session.is_pooled:
+            self._free.append(session)
 
-    def _opened(self, name: str) -> bytes:
-        """The session of a new name."""
-        status, reply = self._answered(Operation.OPEN_SESSION, text_bytes(name))
-        if status == Status.NAME_TAKEN:
-            raise ProgrammingError(f"{name} is the name of a session that the manager handed out by itself")
-        if status:
-            raise no_memory() if status == REPLY_WAITS else self._error(status, reply, None)
-        return reply[1:9]
+    def _close_idle(self) -> bool:
+        """Closes the session that was used longest ago, of those without a transaction; False where there is none."""
+        idle = next((session for session in self._sessions.values() if session.use is None), None)
+        if idle is not None:
+            self._make(Operation.CLOSE_SESSION, idle.number, None, self._note_closed, idle)
+        return idle is not None
 
-    def _end(self, seat: Seat, how: str) -> None:
+    def _note_closed(self, session: Session, _: bytes) -> None:
+        session.number = b""
+        self._sessions.pop(session.key, None)
+
+    def _take(self, session: Session, owner: Any, seat: Seat) -> None:
+        """Gives a session to the transaction of a seat, for as long as there is its owner."""
+        use = Use(owner, self._put_aside.append)
+        use.seat = seat
+        seat.session, seat.use = session, use
+        session.use = use
+        if session.is_pooled:
+            self._free.pop()
+        self._sessions.move_to_end(session.key)
+
+    def _end(self, seat: Seat, state: int) -> None:
         """That a seat's transaction has ended, and its session is free."""
-        seat.ended = how
-        if seat.is_pooled:
-            self._free.append(seat.session)
+        seat.end(state)
+        session = seat.session
+        if session is not None and session.use is seat.use:
+            if session.is_pooled:
+                self._free.append(session)
+            session.use = None
+        seat.use = None  # with which nobody is told when the owner goes
 
-    def _lose(self, seat: Seat) -> None:
-        """That a reply was lost. Whatever it said, a ROLLBACK leaves no transaction in the session."""
-        seat.ended = "was lost with a reply"
-        self._forgotten.append(Seat(seat.session, seat.is_pooled))
-
-    def forget(self, seat: Seat) -> None:
-        """That a seat's transaction was collected. It takes no lock, and needs none."""
-        self._forgotten.append(seat)
+    def _put_seat_aside(self, seat: Seat, state: int = State.INTERRUPTED) -> None:
+        """That a transaction is to be rolled back, whatever became of it. It takes no lock, and needs none."""
+        if seat.use is not None:
+            self._put_aside.append(seat.use)
+        seat.end(state)
 
     # -- transactions
 
-    def begin(self, name: Optional[str], read_only: bool) -> Tuple[Seat, int]:
-        """The seat of a transaction that has begun, and how many commits that one sees."""
-        if name is not None and not isinstance(name, str):
-            raise TypeError(f"a session's name is a str, not {type(name).__name__}")
-        with self._hold():
-            self._enter()
-            seat = self._seat(name)
-            try:
-                reply = self._event(Operation.BEGIN_READ_ONLY if read_only else Operation.BEGIN, seat.session)
-            except ReplyLost:
-                self._lose(seat)
-                raise no_memory() from None
-            except BaseException:
-                self._end(seat, "has not begun")
-                raise
-        return seat, COUNT.unpack_from(reply, 1)[0]
+    def _begin_seat(self, owner: Any, seat: Seat, name: Optional[str], read_only: bool) -> None:
+        """Begins the transaction of a seat. Once there is no owner any more, it is rolled back."""
+        self._serve(self._begin, owner, seat, name, Operation.BEGIN_READ_ONLY if read_only else Operation.BEGIN)
 
-    def commit(self, seat: Seat) -> None:
-        """Commits. After NoMemory the transaction is open as before; after any other refusal it has ended."""
-        self._end_by(seat, Operation.COMMIT, seat.session)
+    def _begin(self, owner: Any, seat: Seat, name: Optional[str], operation: int) -> None:
+        session = self._session(name)
+        if session.use is not None:
+            self._event(operation, session.number)  # which is refused, unless its transaction has ended unnoticed
+            self._roll_back(session.use)
+        self._take(session, owner, seat)
+        try:
+            reply = self._event(operation, session.number)
+        except ReplyLost:
+            self._put_seat_aside(seat)
+            raise error_of(Status.NO_MEMORY, b"") from None
+        except Error:
+            self._end(seat, State.NOT_BEGUN)
+            raise
+        seat.snapshot = COUNT.unpack_from(reply, 1)[0]
+        seat.state = State.OPEN
 
-    def rollback(self, seat: Seat) -> None:
-        self._end_by(seat, Operation.ROLLBACK, seat.session)
+    def _end_seat(self, seat: Seat, operation: int) -> None:
+        """COMMIT or ROLLBACK. After NoMemory the transaction is open as before; any other refusal has ended it."""
+        self._serve(self._end_by, seat, operation)
 
-    def _end_by(self, seat: Seat, operation: int, request: bytes) -> None:
-        with self._hold():
-            self._enter(seat)
-            self._note(seat, self._event_of(seat, operation, request))
+    def _end_by(self, seat: Seat, operation: int) -> None:
+        session = self._session_of(seat)
+        try:
+            self._note(seat, self._event_of(seat, operation, session.number))
+        except Error:
+            raise
+        except BaseException:  # an interrupt: it may have ended, and nobody can go on with it
+            self._put_seat_aside(seat)
+            raise
 
-    def run(self, seat: Seat, text: str, values: Iterable[Any]) -> Result:
+    def _session_of(self, seat: Seat) -> Session:
+        """The session of a transaction, which has to be open."""
+        session = seat.session
+        if seat.state != State.OPEN or session is None:
+            raise error_of(Fault.ENDED, b"", seat.state)
+        if session.use is not seat.use:
+            raise error_of(Fault.ENDED, b"", State.ENDED)
+        return session
+
+    def _run_in_seat(self, seat: Seat, text: str, values: Iterable[Any]) -> Result:
         """The answer to a statement. COMMIT and ROLLBACK as texts end the transaction, as the calls do."""
-        if not isinstance(text, str):
-            raise TypeError(f"a statement is a str, not {type(text).__name__}")
         count, given = parameter_bytes(values)
-        with self._hold():
-            self._enter(seat)
-            statement = self._statement(text)
-            if count != statement.parameters:
-                raise ParameterError(f"the statement has {_many(statement.parameters)}, and {count} came")
-            reply = self._event_of(seat, Operation.RUN, seat.session + statement.number + given, text)
-            self._note(seat, reply)
-        return _answer(reply)
+        return _answer(self._serve(self._run, seat, text, count, given))
+
+    def _run(self, seat: Seat, text: str, count: int, given: bytes) -> bytes:
+        session = self._session_of(seat)
+        statement = self._statement(text)
+        if count != statement.parameters:
+            raise error_of(Status.WRONG_COUNT, b"", (statement.parameters, count))
+        reply = self._event_of(seat, Operation.RUN, session.number + statement.number + given, text)
+        self._note(seat, reply)
+        return reply
 
     def _event_of(self, seat: Seat, operation: int, request: bytes, text: Optional[str] = None) -> bytes:
         """The reply to an event of a seat. A refusal may have ended its transaction."""
         try:
             return self._event(operation, request, text)
         except ReplyLost:
-            self._lose(seat)
+            self._put_seat_aside(seat, State.LOST)
             raise
         except Error as error:
             if error.sqlstate in ENDING or error.number == EPOCH_FULL:
-                self._end(seat, "was refused at COMMIT")
+                self._end(seat, State.REFUSED)
             elif error.number == NO_TRANSACTION:
-                self._end(seat, "has ended")
+                self._end(seat, State.ENDED)
             raise
 
     def _note(self, seat: Seat, reply: bytes) -> None:
         """Notes by a reply how a seat's transaction has ended, if it has."""
         if reply[0] == Kind.COMMITTED:
             seat.number = COUNT.unpack_from(reply, 1)[0]
-            self._end(seat, "has committed")
+            self._end(seat, State.COMMITTED)
         elif reply[0] == Kind.ROLLED_BACK:
-            self._end(seat, "was rolled back")
+            self._end(seat, State.ROLLED_BACK)
+
+    # -- prepared statements; the lock is held
 
     def _statement(self, text: str) -> Statement:
         """The prepared statement of a text: as it was kept; or a new one, and the one used longest ago may go."""
@@ -343,49 +592,17 @@ class Engine:
         if kept is not None:
             self._statements.move_to_end(text)
             return kept
-        try:
-            reply = self._called(Operation.PREPARE, text_bytes(text), text)
-        except ReplyLost:
-            raise no_memory() from None
-        statement = self._statements[text] = Statement(reply[1:9], COUNT.unpack_from(reply, 9)[0])
-        if len(self._statements) > STATEMENTS:
-            _, oldest = self._statements.popitem(last=False)
-            self._answered(Operation.FORGET, oldest.number)
-        return statement
+        self._make(Operation.PREPARE, text_bytes(text), text, self._note_statement, text)
+        while len(self._statements) > STATEMENTS:
+            oldest, statement = next(iter(self._statements.items()))
+            self._make(Operation.FORGET, statement.number, None, self._note_forgotten, oldest)
+        return self._statements[text]
 
-    # -- the whole
+    def _note_statement(self, text: str, reply: bytes) -> None:
+        self._statements[text] = Statement(reply[1:9], COUNT.unpack_from(reply, 9)[0])
 
-    def closing_part(self) -> str:
-        with self._hold():
-            self._enter()
-            return Reader(self._called(Operation.REPORT, b"")).text()
-
-    def checkpoint(self, created: str, dropped: Iterable[str]) -> str:
-        names = [b"\2" + counted(text_bytes(name)) for name in dropped]
-        request = counted(text_bytes(created)) + number_bytes(len(names)) + b"".join(names)
-        with self._hold():
-            self._enter()
-            return Reader(self._called(Operation.CHECKPOINT, request, created)).text()
-
-    @property
-    def closed(self) -> bool:
-        return self._handle is None
-
-    def close(self) -> None:
-        with self._hold():
-            self._handle = None
-            self._finalizer()
-
-    def leave_to_parent(self) -> None:
-        """After a fork: the manager is the parent's, and a copy of it would go its own way unseen."""
-        self._handle = None
-        self._finalizer.detach()
-        self._lock = threading.RLock()
-        self._why_closed = "the manager belongs to the process that opened it: open one in each process"
-
-
-def _many(parameters: int) -> str:
-    return f"{parameters} parameter{'' if parameters == 1 else 's'}"
+    def _note_forgotten(self, text: str, _: bytes) -> None:
+        self._statements.pop(text, None)
 
 
 def _answer(reply: bytes) -> Result:
@@ -394,25 +611,125 @@ def _answer(reply: bytes) -> Result:
     if kind == Kind.ROWS:
         return _rows(Reader(reply))
     if kind == Kind.VERDICT:
-        return Result("VERDICT", verdict=_TRUTHS[reply[1]])
+        return Result("VERDICT", 0, (), (), _TRUTHS[reply[1]])
     count = COUNT.unpack_from(reply, 1)[0] if kind in _COUNTED else 0
-    return Result(_WORDS.get(kind, "DONE"), count=count)
+    return Result(_WORDS.get(kind, "DONE"), count, (), (), None)
 
 
 def _rows(reader: Reader) -> Result:
     columns = tuple([reader.text() for _ in range(reader.number())])
     new, width = row_type(columns), len(columns)
     rows = tuple([new(reader.values(width)) for _ in range(reader.number())])
-    return Result("SELECT", count=len(rows), columns=columns, rows=rows)
+    return Result("SELECT", len(rows), columns, rows, None)
 
 
-_engines: weakref.WeakSet[Engine] = weakref.WeakSet()
+class Transaction:
+    """What of a transaction is done in C, where the package was built so."""
 
+    __slots__ = ("__weakref__", "_engine", "_name", "_read_only", "_retry", "_seat")
 
-def _after_fork() -> None:
-    for engine in list(_engines):
-        engine.leave_to_parent()
+    def __init__(self, engine: Engine, read_only: bool, session: Optional[str], retry: int) -> None:
+        self._engine = engine
+        self._read_only = read_only
+        self._name = session
+        self._retry = retry
+        self._seat = Seat()
 
+    def execute(self, sql: str, values: Union[Iterable[Value], Mapping[str, Value]] = ()) -> Result:
+        """Runs a statement, and gives what it was answered: a count, rows, a verdict.
 
-if hasattr(os, "register_at_fork"):
-    os.register_at_fork(after_in_child=_after_fork)
+        Each `?` in the text stands for the next of the values, or each `:name` for that of the name, where they come as
+        a dict. Values are numbers, texts and None for NULL, and never become a part of the text. Raises, with nothing
+        of the statement left and the transaction going on:
+        ProgrammingError (a text that is not of the language, with line and column; a name that is not there; types
+        that don't fit), ParameterError and TypeError (values), DataError, IntegrityError, RuleViolated, NoMemory.
+        """
+        if not isinstance(sql, str):
+            raise error_of(Fault.NO_TEXT, b"", sql)
+        if not isinstance(values, (list, tuple)):
+            sql, values = taken(sql, values)
+        return self._engine._run_in_seat(self._seat, sql, values)
+
+    def commit(self) -> int:
+        """Commits, and gives the number of the commit.
+
+        Raises RuleViolated, SerializationFailure and EpochFull, and the transaction has ended; NoMemory, and it is
+        open as before; or ReplyLost.
+        """
+        seat = self._seat
+        self._engine._end_seat(seat, Operation.COMMIT)
+        assert seat.number is not None
+        return seat.number
+
+    def rollback(self) -> None:
+        """Ends the transaction, and nothing of it is left."""
+        self._engine._end_seat(self._seat, Operation.ROLLBACK)
+
+    @property
+    def snapshot(self) -> Optional[int]:
+        """How many commits its tables hold; None before it began."""
+        return self._seat.snapshot
+
+    @property
+    def number(self) -> Optional[int]:
+        """The number of its commit; None without one."""
+        return self._seat.number
+
+    @property
+    def _state(self) -> int:
+        return self._seat.state
+
+    def _begin(self) -> Any:
+        """Begins, and gives the transaction itself."""
+        if self._name is not None:
+            text_bytes(self._name)
+        seat = self._seat
+        try:
+            self._engine._begin_seat(self, seat, self._name, self._read_only)
+            return self
+        except Error:
+            raise
+        except BaseException:
+            self._engine._put_seat_aside(seat)
+            raise
+
+    def __enter__(self) -> Any:
+        # A block gets another object for the same transaction, so that this one goes with the block. Should an
+        # interrupt come where Python enters `__exit__`, nothing else would tell that the block has ended.
+        if self._retry:
+            raise error_of(Fault.RETRIED, b"")
+        seat = self._seat
+        if seat.state != State.NOT_BEGUN:
+            raise error_of(Fault.USED, b"")
+        try:
+            self._begin()
+            other = type(self)(self._engine, self._read_only, self._name, 0)
+            other._seat = seat
+            return other
+        except Error:
+            raise
+        except BaseException:
+            self._engine._put_seat_aside(seat)
+            raise
+
+    def __exit__(self, kind: Optional[Type[BaseException]], *_: object) -> None:
+        seat = self._seat
+        try:
+            self._leave(seat, kind is None)
+        except BaseException:
+            self._engine._put_seat_aside(seat)
+            raise
+
+    def _leave(self, seat: Seat, commits: bool) -> None:
+        """Ends the transaction of a block that was left, if it has not ended in it."""
+        if seat.state != State.OPEN:
+            return
+        try:
+            if commits:
+                self._engine._end_seat(seat, Operation.COMMIT)
+        finally:
+            if seat.state == State.OPEN:
+                try:
+                    self._engine._end_seat(seat, Operation.ROLLBACK)
+                except Error:
+                    pass

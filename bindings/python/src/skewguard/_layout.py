@@ -56,6 +56,33 @@ class Status:
     CLOSED = 11
 
 
+class Fault:
+    """What a call may find besides the statuses of the library."""
+
+    CLOSED = -1
+    ENDED = -2
+    POOLED = -3
+    CALLING = -4
+    OF_PARENT = -5
+    OTHER_LIBRARY = -6
+    RETRIED = -7
+    USED = -8
+    NO_TEXT = -9
+
+
+class State:
+    """How a transaction stands."""
+
+    NOT_BEGUN = 0
+    OPEN = 1
+    COMMITTED = 2
+    ROLLED_BACK = 3
+    REFUSED = 4
+    ENDED = 5
+    LOST = 6
+    INTERRUPTED = 7
+
+
 class Kind:
     """What a reply is of."""
 
@@ -100,8 +127,6 @@ def parameter_bytes(values: Iterable[Any]) -> Tuple[int, bytes]:
 
     Raises TypeError for a value that is no int, str or None, and ParameterError for one that the language has not.
     """
-    if isinstance(values, (str, bytes, bytearray, dict, set, frozenset)) or not hasattr(values, "__iter__"):
-        raise TypeError(f"values come as a list or a tuple, one for each `?`, and not as {type(values).__name__}")
     pieces: List[bytes] = []
     for place, value in enumerate(values, 1):
         if isinstance(value, int) and value is not True and value is not False:

@@ -1,15 +1,17 @@
-"""The exception of each refusal."""
+"""The exception of each refusal, and of whatever else a call may find."""
 
 from __future__ import annotations
 
-from typing import Dict, Optional, Tuple, Type, Union
+import sys
+from typing import Any, Callable, Dict, Optional, Tuple, Type, Union
 
 from . import errors
-from ._layout import Reader
+from ._layout import Fault, Kind, Reader, State, Status
 from .errors import DangerousStructure, Error, WriteConflict
 
 SYNTAX, TOO_DEEP = 2, 19
 VIOLATED, WRITE_CONFLICT, DANGEROUS, NO_TRANSACTION, EPOCH_FULL, FALSE_AT_CREATION = 10, 12, 13, 14, 17, 21
+TOO_MANY_SESSIONS = 24
 
 # So many characters of a line stand above a caret.
 SHOWN = 110
@@ -23,7 +25,7 @@ _CLASSES: Dict[int, Type[Error]] = {
     VIOLATED: errors.RuleViolated,
     EPOCH_FULL: errors.EpochFull,
     FALSE_AT_CREATION: errors.RuleViolated,
-    24: errors.OperationalError,
+    TOO_MANY_SESSIONS: errors.OperationalError,
 }
 
 # What is said of each fault, with the name and the root or key that it tells.
@@ -47,15 +49,84 @@ _WORDS: Dict[int, str] = {
     FALSE_AT_CREATION: "{name} is false at {root} on the rows that are there",
     22: "the attributes of {name} exclude each other",
     23: "the transaction is READ ONLY",
-    24: "there are as many sessions as may be",
+    TOO_MANY_SESSIONS: "too many transactions are open at once: there may be 256",
 }
+
+
+# How a transaction ended.
+STATES: Dict[int, str] = {
+    State.NOT_BEGUN: "has not begun: use it in a `with` block",
+    State.COMMITTED: "has committed",
+    State.ROLLED_BACK: "was rolled back",
+    State.REFUSED: "was refused at COMMIT",
+    State.ENDED: "has ended",
+    State.LOST: "was lost with a reply",
+    State.INTERRUPTED: "was interrupted",
+}
+
+# What is said of a call that was not made, or not answered.
+_FAULTS: Dict[int, str] = {
+    Status.REPLY_WAITS: "the call was answered, but there was no memory for its reply",
+    Status.BAD_NAME: "a name is a letter, then letters, digits, _, 128 at most, and no reserved word",
+    Fault.CLOSED: "the manager is closed",
+    Fault.CALLING: "a trace, or a signal's handler, may not call the manager in the midst of a call",
+    Fault.OF_PARENT: "the manager belongs to the process that opened it: open one in each process",
+    Fault.OTHER_LIBRARY: "the library is another one than this package was written for",
+    Fault.RETRIED: "a with block can't run its body again: for retry give the body as a function to Manager.run, or "
+    "put this transaction in front of it as a decorator",
+    Fault.USED: "a transaction is for one block: ask the manager for another",
+}
+_FAULT_CLASSES: Dict[int, Type[Exception]] = {
+    Status.REPLY_WAITS: errors.ReplyLost,
+    Status.BAD_NAME: errors.ProgrammingError,
+    Fault.RETRIED: TypeError,
+}
+
+
+def error_of(status: int, reply: bytes, detail: Any = None) -> Exception:
+    """The exception of a status that is not DONE, with what the fault is of: a text, a name, a state, two counts."""
+    if status == Status.REFUSED:
+        return refusal(reply, detail)
+    if status == Status.NO_MEMORY:
+        return no_memory()
+    if status == Status.WRONG_COUNT:
+        wanted, given = detail
+        return errors.ParameterError(f"the statement has {_many(wanted)}, and {given} came")
+    if status == Status.BAD_VALUE:
+        return _bad_value(Reader(reply).number() if reply[:1] == bytes([Kind.MISUSED]) else 0)
+    if status == Fault.ENDED:
+        return errors.InterfaceError(f"the transaction {STATES[detail]}")
+    if status == Fault.POOLED:
+        return errors.ProgrammingError(f"{detail} is the name of a session that the manager handed out by itself")
+    if status == Fault.NO_TEXT:
+        return TypeError(f"a statement is a str, not {type(detail).__name__}")
+    words = _FAULTS.get(status, f"the library answers with the status {status}")
+    return _FAULT_CLASSES.get(status, errors.InterfaceError)(words)
+
+
+def tell(trace: Callable[[str], Any], line: str) -> None:
+    """Hands the line of an event on. The event has been: what the trace raises is shown, and stops nothing."""
+    try:
+        trace(line.rstrip("\n"))
+    except Exception:
+        sys.excepthook(*sys.exc_info())
+
+
+def _many(parameters: int) -> str:
+    return f"{parameters} parameter{'' if parameters == 1 else 's'}"
+
+
+def _bad_value(parameter: int) -> Error:
+    error = errors.ParameterError(f"value {parameter} may not stand there: for NULL a condition says IS NULL")
+    error.parameter = parameter
+    return error
 
 
 def refusal(reply: bytes, text: Optional[str]) -> Error:
     """The exception of a refusal. A fault in a text is shown in that text."""
     reader = Reader(reply)
     number, sqlstate, name, root = reader.number(), reader.text(), reader.text(), reader.value()
-    commit, first, pivot, last = (reader.number() for _ in range(4))
+    commit, first, pivot, last = [reader.number() for _ in range(4)]
     offset, line = reader.number(), reader.text().rstrip()
     error: Error
     if number in (SYNTAX, TOO_DEEP) and text is not None:
@@ -94,7 +165,7 @@ def _failure(conflict: Union[WriteConflict, DangerousStructure]) -> Error:
         row = f"the row {_shown(conflict.key)} of {conflict.table}"
         words = f"commit {conflict.commit} has changed {row} since this transaction began"
     else:
-        reader, pivot, writer = (_party(it) for it in (conflict.reader, conflict.pivot, conflict.writer))
+        reader, pivot, writer = _party(conflict.reader), _party(conflict.pivot), _party(conflict.writer)
         words = (
             f"there would be no serial order: {reader} read what {pivot} changed, and {pivot} read what {writer} "
             "changed, each without seeing the change"
@@ -121,8 +192,8 @@ def _drawn(line: str, column: int) -> str:
     """A line, or the part of a long one that lies around a column, and below it a caret under that column."""
     start = max(0, column - 1 - SHOWN // 2)
     part = line[start : start + SHOWN]
-    shown = "".join(character if character.isprintable() or character == "\t" else "?" for character in part)
-    indent = "".join("\t" if character == "\t" else " " for character in part[: column - 1 - start])
+    shown = "".join([character if character.isprintable() or character == "\t" else "?" for character in part])
+    indent = "".join(["\t" if character == "\t" else " " for character in part[: column - 1 - start]])
     return f"  {shown}\n  {indent}^"
 
 

@@ -14,6 +14,7 @@ __all__ = [
     "ALL",
     "DangerousStructure",
     "DataError",
+    "DatabaseError",
     "EpochFull",
     "Error",
     "IntegrityError",
@@ -65,7 +66,11 @@ class InterfaceError(Error):
     """The wrapper was used in a way that can't be: a closed manager, a transaction after its end."""
 
 
-class ProgrammingError(Error):
+class DatabaseError(Error):
+    """What the database refuses; all but InterfaceError, as PEP 249 has it."""
+
+
+class ProgrammingError(DatabaseError):
     """A text is not of the language, names what is not there, or has another type than the place it stands in.
 
     line, column: where the text stops being one of the language, both from 1; None where the fault has no place.
@@ -84,11 +89,11 @@ class ParameterError(ProgrammingError, ValueError):
     parameter: Optional[int] = None
 
 
-class DataError(Error):
+class DataError(DatabaseError):
     """A value is beyond what its column holds (22003, 22001)."""
 
 
-class IntegrityError(Error):
+class IntegrityError(DatabaseError):
     """A row takes a key that is taken, or a NULL where none may be (23000)."""
 
 
@@ -107,7 +112,7 @@ class RuleViolated(IntegrityError):
     root: Root = None
 
 
-class OperationalError(Error):
+class OperationalError(DatabaseError):
     """What lies outside of the program's text: other transactions, memory, limits."""
 
 

@@ -2,90 +2,120 @@
 
 from __future__ import annotations
 
-import contextlib
 import functools
 import inspect
-import warnings
-from typing import Any, Callable, Iterable, Optional, Tuple, Type, TypeVar
+import logging
+from typing import TYPE_CHECKING, Any, Callable, Dict, Iterable, Optional, Tuple, Type, TypeVar
 
-from ._engine import Engine, Seat
-from .errors import Error, InterfaceError, SerializationFailure, Value
-from .rows import Result
+from . import _backend
+from ._layout import Fault, Operation, Reader, State, counted, number_bytes, text_bytes
+from ._refusals import STATES, error_of
+from .errors import InterfaceError, SerializationFailure
+
+if TYPE_CHECKING:
+    from ._asynchronous import AsyncTransaction
 
 __all__ = ["Manager", "Transaction", "open"]
 
 T = TypeVar("T")
 
 
-def open(definitions: str, *, max_commits: int = 1_000_000, trace: Optional[Callable[[str], Any]] = None) -> Manager:
+MOST_COMMITS = 2**32 - 1
+
+
+def open(
+    definitions: str,
+    *,
+    max_commits: int = 1_000_000,
+    trace: Optional[Callable[[str], Any]] = None,
+    log: Optional[logging.Logger] = None,
+) -> Manager:
     """A manager on the tables, assertions and rows that the definitions define.
 
     definitions: CREATE TABLE, CREATE ASSERTION and INSERT, each with its `;`.
     max_commits: so many commits are taken, until `checkpoint` begins a new epoch (1 to 4,294,967,295).
     trace: is called with the line of the report for each event, as `skewguard replay` prints it. It runs in the midst
         of the call, and may not call the manager.
+    log: is told the same lines, those of refusals as INFO and all others as DEBUG, and as INFO each transaction that is
+        run again. What it leaves out by its level when the manager is opened costs nothing.
 
     Raises ProgrammingError for a text that is not of the language or doesn't fit together, IntegrityError and
     DataError for a row that its table can't take, RuleViolated for an assertion that is false on the rows to begin
     with, and NoMemory.
     """
-    return Manager(Engine(definitions, max_commits, trace))
+    if isinstance(max_commits, bool) or not isinstance(max_commits, int):
+        raise TypeError(f"max_commits is a number, not {type(max_commits).__name__}")
+    if not 1 <= max_commits <= MOST_COMMITS:
+        raise ValueError(f"max_commits is {max_commits}, and not from 1 to {MOST_COMMITS}")
+    if trace is not None and not callable(trace):
+        raise TypeError(f"trace is called with each line, and a {type(trace).__name__} can't be")
+    if log is not None and not isinstance(log, logging.Logger):
+        raise TypeError(f"log is a logging.Logger, not {type(log).__name__}")
+    request = number_bytes(max_commits) + text_bytes(definitions)
+    _backend.find_library()
+    manager = Manager(request, definitions, _told(trace, log))
+    manager._log = log
+    return manager
 
 
-class Manager:
+def _told(trace: Optional[Callable[[str], Any]], log: Optional[logging.Logger]) -> Optional[Callable[[str], Any]]:
+    """What is told each line, for a trace and a log."""
+    if log is None or not log.isEnabledFor(logging.INFO):
+        return trace
+
+    def tell(line: str) -> None:
+        is_refused = ": REFUSED " in line.partition("\n")[0]
+        log.log(logging.INFO if is_refused else logging.DEBUG, "%s", line)
+        if trace is not None:
+            trace(line)
+
+    return tell
+
+
+class Manager(_backend.Engine):
     """Tables in memory. No committed ones make an assertion false, and committed transactions have a serial order.
 
     Any thread may call it; one call is served after the other. `open` makes it, and `close`, or the end of a `with`
     block, gives its memory back.
     """
 
-    def __init__(self, engine: Engine) -> None:
-        self._engine = engine
+    _log: Optional[logging.Logger] = None
 
-    def transaction(self, *, read_only: bool = False, retry: int = 0, session: Optional[str] = None) -> Transaction:
-        """A transaction for a `with` block, or around a function.
+    if TYPE_CHECKING:
 
-            with manager.transaction() as t:
-                t.execute("UPDATE DUTY SET ONCALL = 0 WHERE DOCTOR = ?", ["KIM"])
-
-        It begins with the block, commits at its end, and is rolled back where an exception leaves the block. The
-        COMMIT may raise RuleViolated, SerializationFailure, EpochFull and NoMemory; the transaction has ended then.
-
-            @manager.transaction(retry=3)
-            def leave(t, doctor):
-                t.execute("UPDATE DUTY SET ONCALL = 0 WHERE DOCTOR = ?", [doctor])
-
-        The function is then called as `leave("KIM")`, in a transaction of its own each time, as by `run`.
-
-        read_only: INSERT, UPDATE and DELETE are refused, and the transaction is refused less often.
-        retry: how many times more the function is run where others were in its way. A `with` block can't be run again,
-            so for one there is no retry.
-        session: the name under which the report tells of it; without one the manager gives it one.
-        """
-        return Transaction(self._engine, read_only, session, _checked_retry(retry))
+        def transaction(
+            self, *, read_only: bool = False, retry: int = 0, session: Optional[str] = None
+        ) -> Transaction: ...
 
     def begin(self, *, read_only: bool = False, session: Optional[str] = None) -> Transaction:
         """A transaction that has begun, for code without a `with` block: `commit` or `rollback` ends it."""
-        return Transaction(self._engine, read_only, session, 0).__enter__()
+        begun: Transaction = self.transaction(read_only=read_only, session=session)._begin()
+        return begun
 
     def run(
         self,
         function: Callable[..., T],
         *arguments: Any,
-        retry: int = 3,
-        read_only: bool = False,
+        retry: Optional[int] = None,
+        read_only: Optional[bool] = None,
         session: Optional[str] = None,
         **named: Any,
     ) -> T:
         """What the function gives, called with a transaction and these arguments, once that transaction has committed.
 
-        Where others were in its way (SerializationFailure), the whole is run again, at most `retry` times more, on the
-        tables as they are then; the last failure is raised. Each failure means that another transaction committed, so
-        of transactions that try again one is always getting on. So the function should do nothing that can't be done
-        twice, but for what it does by its transaction. Any other exception rolls the transaction back and is raised.
+        Where others were in its way (SerializationFailure), the whole is run again, at most `retry` times more (3
+        without it), on the tables as they are then; the last failure is raised. Each failure means that another
+        transaction committed, so of transactions that try again one is always getting on. So the function should do
+        nothing that can't be done twice, but for what it does by its transaction. Any other exception rolls the
+        transaction back and is raised.
+
+        `retry`, `read_only` and `session` are those of `transaction`. A function with parameters of these names gets
+        them by `manager.transaction(retry=3).run(function, ..)`.
         """
-        body = functools.partial(function, **named)
-        return _run(self._engine, read_only, session, _checked_retry(retry), body, arguments)
+        given = {"retry": retry, "read_only": read_only, "session": session}
+        options = {name: value for name, value in given.items() if value is not None}
+        _check_names(function, options)
+        return self.transaction(**{"retry": 3, **options}).run(function, *arguments, **named)
 
     def checkpoint(self, create: str = "", drop: Iterable[str] = ()) -> str:
         """Begins a new epoch on the newest tables, and gives the closing part of the report of the one that ended.
@@ -98,20 +128,13 @@ class Manager:
         """
         if isinstance(drop, str):
             raise TypeError(f"drop is a list of names: [{drop!r}]")
-        return self._engine.checkpoint(create, list(drop))
+        names = [b"\2" + counted(text_bytes(name)) for name in drop]
+        request = counted(text_bytes(create)) + number_bytes(len(names)) + b"".join(names)
+        return Reader(self._call(Operation.CHECKPOINT, request, create)).text()
 
     def report(self) -> str:
         """The closing part of the report: commits, their serial order, refused COMMITs, each assertion's truth."""
-        return self._engine.closing_part()
-
-    def close(self) -> None:
-        """Gives the memory back. Open transactions are lost. Later calls raise InterfaceError, but for this one."""
-        self._engine.close()
-
-    @property
-    def closed(self) -> bool:
-        """Whether the manager was closed."""
-        return self._engine.closed
+        return Reader(self._call(Operation.REPORT, b"", None)).text()
 
     def __enter__(self) -> Manager:
         return self
@@ -120,137 +143,120 @@ class Manager:
         self.close()
 
     def __repr__(self) -> str:
-        return f"<skewguard.Manager {'closed' if self.closed else 'open'}>"
+        count = self._open_transactions
+        state = "closed" if self.closed else f"open, {count} transaction{'' if count == 1 else 's'}"
+        return f"<skewguard.Manager {state}>"
 
 
-class Transaction:
+class Transaction(_backend.Transaction):
     """A transaction: statements on the tables of its begin, with its own changes.
 
     `Manager.transaction` and `Manager.begin` make it. Each statement is answered on its own; several threads may share
-    a transaction, and their statements run one after the other. One that is forgotten is rolled back when Python
-    collects it, with a ResourceWarning.
-
-    snapshot: how many commits its tables hold; None before it began.
+    a transaction, and their statements run one after the other. One that is forgotten is rolled back by the next call
+    of the manager after Python has collected it, with a ResourceWarning.
     """
 
-    __slots__ = ("_engine", "_name", "_read_only", "_retry", "_seat", "snapshot", "__weakref__")
+    __slots__ = ()
 
-    def __init__(self, engine: Engine, read_only: bool, session: Optional[str], retry: int) -> None:
-        self._engine = engine
-        self._read_only = read_only
-        self._name = session
-        self._retry = retry
-        self._seat: Optional[Seat] = None
-        self.snapshot: Optional[int] = None
+    if TYPE_CHECKING:
 
-    def execute(self, sql: str, values: Iterable[Value] = ()) -> Result:
-        """Runs a statement, and gives what it was answered: a count, rows, a verdict.
-
-        Each `?` in the text stands for the next of the values, which are numbers, texts and None for NULL. They never
-        become a part of the text. Raises, with nothing of the statement left and the transaction going on:
-        ProgrammingError (a text that is not of the language, with line and column; a name that is not there; types
-        that don't fit), ParameterError and TypeError (values), DataError, IntegrityError, RuleViolated, NoMemory.
-        """
-        return self._engine.run(self._open_seat(), sql, values)
+        def __enter__(self) -> Transaction: ...
 
     def verdict(self, rule: str) -> Optional[bool]:
         """How an assertion stands on the transaction's own tables: True, False, or None for unknown."""
         return self.execute(f"VERDICT {rule}").verdict
 
-    def commit(self) -> int:
-        """Commits, and gives the number of the commit.
+    def set_constraints(self, *rules: str, deferred: bool) -> None:
+        """Defers these rules until COMMIT, or makes them immediate; without a name all that are DEFERRABLE.
 
-        Raises RuleViolated, SerializationFailure and EpochFull, and the transaction has ended; NoMemory, and it is
-        open as before; or ReplyLost.
+        One that is made immediate is checked at once: RuleViolated, and nothing has changed. ProgrammingError for one
+        that is not DEFERRABLE, or not there.
         """
-        seat = self._open_seat()
-        self._engine.commit(seat)
-        assert seat.number is not None
-        return seat.number
+        self.execute(f"SET CONSTRAINTS {', '.join(rules) or 'ALL'} {'DEFERRED' if deferred else 'IMMEDIATE'}")
 
-    def rollback(self) -> None:
-        """Ends the transaction, and nothing of it is left."""
-        self._engine.rollback(self._open_seat())
+    def run(self, function: Callable[..., T], *arguments: Any, **named: Any) -> T:
+        """What the function gives, called with a transaction that is like this one, and with these arguments, once that
+        transaction has committed: as `Manager.run`, with all that stands behind the function for the function."""
+        self._check_unbegun()
+        return _run(self, function, arguments, named)
 
-    @property
-    def number(self) -> Optional[int]:
-        """The number of its commit; None without one."""
-        return self._seat.number if self._seat else None
+    async def __aenter__(self) -> AsyncTransaction:
+        """Begins, for an `async with` block. It gets a transaction whose calls are made by threads, to wait for."""
+        from ._asynchronous import entered
 
-    def _open_seat(self) -> Seat:
-        if self._seat is None:
-            raise InterfaceError("the transaction has not begun: use it in a `with` block")
-        return self._seat
+        return await entered(self)
 
-    def __enter__(self) -> Transaction:
+    async def __aexit__(self, kind: Optional[Type[BaseException]], *_: object) -> None:
+        from ._asynchronous import by_thread
+
+        await by_thread(self.__exit__, kind, None, None)
+
+    def _enter(self) -> None:
+        """Begins for a block, which goes on with this object."""
         if self._retry:
-            raise TypeError(
-                "a with block can't run its body again: for retry give the body as a function to Manager.run, or put "
-                "this transaction in front of it as a decorator"
-            )
-        if self._seat is not None:
-            raise InterfaceError("a transaction is for one block: ask the manager for another")
-        self._seat, self.snapshot = self._engine.begin(self._name, self._read_only)
-        return self
-
-    def __exit__(self, kind: Optional[Type[BaseException]], *_: object) -> None:
-        seat = self._open_seat()
-        if seat.ended:
-            return
-        try:
-            if kind is None:
-                self._engine.commit(seat)
-        finally:
-            if not seat.ended:
-                with contextlib.suppress(Error):
-                    self._engine.rollback(seat)
+            raise error_of(Fault.RETRIED, b"")
+        if self._state != State.NOT_BEGUN:
+            raise error_of(Fault.USED, b"")
+        self._begin()
 
     def __call__(self, function: Callable[..., T]) -> Callable[..., T]:
         """The function, run in a transaction of its own at each call, and again as often as `retry` says."""
-        if self._seat is not None:
-            raise InterfaceError("a transaction that has begun is no decorator")
+        self._check_unbegun()
 
         @functools.wraps(function)
         def in_transaction(*arguments: Any, **named: Any) -> T:
-            body = functools.partial(function, **named)
-            return _run(self._engine, self._read_only, self._name, self._retry, body, arguments)
+            return _run(self, function, arguments, named)
 
         return in_transaction
 
-    def __del__(self) -> None:
-        seat = getattr(self, "_seat", None)
-        if seat is not None and not seat.ended and not self._engine.closed:
-            self._engine.forget(seat)
-            warnings.warn(f"{self!r} was forgotten, and is rolled back", ResourceWarning, stacklevel=2, source=self)
+    def _check_unbegun(self) -> None:
+        if self._state != State.NOT_BEGUN:
+            raise InterfaceError("a transaction that has begun runs no function: ask the manager for another")
 
     def __repr__(self) -> str:
-        state = "not begun" if self._seat is None else self._seat.ended or "open"
-        return f"<skewguard.Transaction {state}>"
+        name = "" if self._name is None else f" of {self._name}"
+        if self._state == State.NOT_BEGUN:
+            state = "not begun"
+        elif self._state == State.COMMITTED:
+            state = f"has committed as {self.number}"
+        else:
+            state = f"open, on {self.snapshot} commits" if self._state == State.OPEN else STATES[self._state]
+        return f"<skewguard.Transaction{name} {state}>"
 
 
-def _run(
-    engine: Engine,
-    read_only: bool,
-    session: Optional[str],
-    retry: int,
-    body: Callable[..., T],
-    arguments: Tuple[Any, ...],
-) -> T:
+def _run(like: Transaction, function: Callable[..., T], arguments: Tuple[Any, ...], named: Dict[str, Any]) -> T:
     """What a function gives, once the transaction that it was called with has committed."""
-    for left in range(retry, -1, -1):
+    manager = like._engine
+    for left in range(like._retry, -1, -1):
         try:
-            with Transaction(engine, read_only, session, 0) as transaction:
-                answer = body(transaction, *arguments)
+            with manager.transaction(read_only=like._read_only, session=like._name) as transaction:
+                answer = function(transaction, *arguments, **named)
                 if inspect.isawaitable(answer) or inspect.isgenerator(answer) or inspect.isasyncgen(answer):
                     raise TypeError(
                         f"the function gives a {type(answer).__name__}, which has run nothing by the time of the "
                         "COMMIT: a plain function is wanted"
                     )
             return answer
-        except SerializationFailure:
+        except SerializationFailure as failure:
             if not left:
                 raise
+            if manager._log is not None:
+                manager._log.info("run again: %s", failure)
     raise AssertionError("the last attempt returns or raises")
+
+
+def _check_names(function: Callable[..., Any], options: Dict[str, Any]) -> None:
+    """Refuses an option that would be taken from a parameter of the function."""
+    code = getattr(function, "__code__", None)
+    if code is None:
+        return
+    parameters = code.co_varnames[: code.co_argcount + code.co_kwonlyargcount]
+    for name in options:
+        if name in parameters:
+            raise TypeError(
+                f"{function.__name__} has a parameter {name} of its own: write "
+                f"manager.transaction({name}=..).run({function.__name__}, ..)"
+            )
 
 
 def _checked_retry(retry: int) -> int:
@@ -260,3 +266,6 @@ def _checked_retry(retry: int) -> int:
     if retry < 0:
         raise ValueError(f"retry is {retry}, and not 0 or more")
     return retry
+
+
+_backend.install(Transaction, _checked_retry)

@@ -1,0 +1,555 @@
+/* Transaction: statements in a session of an engine. */
+#include "objects.h"
+
+#include "helpers.h"
+
+/* How a transaction stands. _refusals.py has the words. */
+typedef enum State {
+    NOT_BEGUN,
+    IS_OPEN,
+    HAS_COMMITTED,
+    WAS_ROLLED_BACK,
+    WAS_REFUSED,
+    HAS_ENDED,
+    WAS_LOST,
+    WAS_INTERRUPTED
+} State;
+
+typedef struct TransactionObject {
+    PyObject_HEAD
+    EngineObject *engine;
+    PyObject *name, *retry;
+    char is_read_only;
+    atomic_int state;
+    Session *session;
+    uint64_t snapshot, number;
+    PyObject *weak_references;
+} TransactionObject;
+
+/* ---- how it ends */
+
+static uint64_t first_number(const Reply *reply)
+{
+    skewguard_reader reader = reply_reader(reply);
+    return skewguard_read_number(&reader);
+}
+
+static void end(TransactionObject *it, State state)
+{
+    atomic_store(&it->state, state);
+    engine_end(it->session);
+}
+
+/* The same where nobody can tell what the library has of it: the next call rolls it back. */
+static void give_up(TransactionObject *it, State state)
+{
+    atomic_store(&it->state, state);
+    engine_forget(&it->engine->engine, it->session);
+}
+
+/* A refusal of COMMIT for others, for an assertion or for a full epoch has ended the transaction. */
+static int is_ending(const Reply *reply)
+{
+    skewguard_reader reader = reply_reader(reply);
+    uint64_t number = skewguard_read_number(&reader);
+    skewguard_text state = skewguard_read_text(&reader);
+    return number == SKEWGUARD_FAULT_EPOCH_FULL
+        || (state.length == 5 && (!memcmp(state.bytes, "40001", 5) || !memcmp(state.bytes, "40002", 5)));
+}
+
+/* Notes by a reply whether a transaction has ended. */
+static void note(TransactionObject *it, const Reply *reply)
+{
+    if (reply->status == SKEWGUARD_REPLY_WAITS) {
+        give_up(it, WAS_LOST);
+    } else if (reply_kind(reply) == SKEWGUARD_COMMITTED) {
+        it->number = first_number(reply);
+        end(it, HAS_COMMITTED);
+    } else if (reply_kind(reply) == SKEWGUARD_ROLLED_BACK) {
+        end(it, WAS_ROLLED_BACK);
+    } else if (reply_kind(reply) == SKEWGUARD_REFUSAL) {
+        if (is_ending(reply))
+            end(it, WAS_REFUSED);
+        else if (first_number(reply) == SKEWGUARD_FAULT_NO_TRANSACTION)
+            end(it, HAS_ENDED);
+    }
+}
+
+static PyObject *raise_of(TransactionObject *it, int32_t status, const Reply *reply, PyObject *text)
+{
+    PyObject *state;
+    if (status != IS_ENDED)
+        return raise_status(status, reply, text);
+    state = PyLong_FromLong(atomic_load(&it->state));
+    if (state)
+        raise_status(IS_ENDED, NULL, state);
+    Py_XDECREF(state);
+    return NULL;
+}
+
+/* COMMIT or ROLLBACK, of one that has to be open. */
+static int32_t finish(TransactionObject *it, Reply *reply, uint32_t operation)
+{
+    int32_t status = enter(it->engine);
+    if (status)
+        return status;
+    if (atomic_load(&it->state) == IS_OPEN) {
+        status = engine_event_of(&it->engine->engine, reply, operation, it->session);
+        note(it, reply);
+    } else {
+        status = IS_ENDED;
+    }
+    leave(it->engine);
+    return status;
+}
+
+/* 0 with a Python exception. */
+static int finish_or_raise(TransactionObject *it, uint32_t operation)
+{
+    Reply reply;
+    int32_t status;
+    if (!may_call(it->engine))
+        return 0;
+    reply_start(&reply, 0);
+    status = finish(it, &reply, operation);
+    if (status && !PyErr_Occurred())
+        raise_of(it, status, &reply, NULL);
+    reply_end(&reply);
+    return !PyErr_Occurred();
+}
+
+/* ---- how it begins */
+
+static PyObject *transaction_new(PyTypeObject *type, PyObject *args, PyObject *kwargs)
+{
+    (void)type, (void)args, (void)kwargs;
+    PyErr_SetString(PyExc_TypeError, "a manager makes transactions");
+    return NULL;
+}
+
+PyObject *new_transaction(EngineObject *engine, int is_read_only, PyObject *name, PyObject *retry)
+{
+    TransactionObject *it = (TransactionObject *)helpers.transaction.allocate(helpers.transaction.type, 0);
+    if (!it)
+        return NULL;
+    Py_INCREF(engine);
+    it->engine = engine;
+    Py_INCREF(it->name = name);
+    Py_INCREF(it->retry = retry);
+    it->is_read_only = (char)is_read_only;
+    return (PyObject *)it;
+}
+
+static int transaction_traverse(PyObject *self, visitproc visit, void *arg)
+{
+    Py_VISIT(Py_TYPE(self));
+    Py_VISIT(((TransactionObject *)self)->engine);
+    return 0;
+}
+
+/* Where nobody has an open transaction any more, the next call rolls it back. */
+static void transaction_finalize(PyObject *self)
+{
+    TransactionObject *it = (TransactionObject *)self;
+    PyObject *type, *value, *traceback;
+    if (atomic_load(&it->state) != IS_OPEN)
+        return;
+    engine_forget(&it->engine->engine, it->session);
+    atomic_store(&it->state, WAS_LOST);
+    if (!it->engine->engine.handle || it->engine->process != process)
+        return;
+    PyErr_Fetch(&type, &value, &traceback);
+    if (PyErr_ResourceWarning(self, 1, "a transaction was forgotten, and is rolled back"))
+        PyErr_WriteUnraisable(NULL);
+    PyErr_Restore(type, value, traceback);
+}
+
+static void transaction_dealloc(PyObject *self)
+{
+    TransactionObject *it = (TransactionObject *)self;
+    PyTypeObject *type = Py_TYPE(self);
+    PyObject_GC_UnTrack(self);
+    if (it->weak_references)
+        PyObject_ClearWeakRefs(self);
+    Py_XDECREF(it->engine);
+    Py_XDECREF(it->name);
+    Py_XDECREF(it->retry);
+    ((freefunc)PyType_GetSlot(type, Py_tp_free))(self);
+    Py_DECREF(type);
+}
+
+/* Begins, in the session of a name or, without one, in any. 0 with a Python exception. */
+static int begin_in(TransactionObject *it, const char *name, size_t length)
+{
+    uint32_t operation = it->is_read_only ? SKEWGUARD_DO_BEGIN_READ_ONLY : SKEWGUARD_DO_BEGIN;
+    Reply reply;
+    int32_t status;
+    reply_start(&reply, 0);
+    status = enter(it->engine);
+    if (!status) {
+        status = engine_begin(&it->engine->engine, &reply, operation, name, length, &it->session);
+        if (!status) {
+            it->snapshot = first_number(&reply);
+            atomic_store(&it->state, IS_OPEN);
+        }
+        leave(it->engine);
+    }
+    if (status && !PyErr_Occurred())
+        raise_status(status == SKEWGUARD_REPLY_WAITS ? SKEWGUARD_NO_MEMORY : status, &reply, it->name);
+    else if (!status && PyErr_Occurred())
+        give_up(it, WAS_INTERRUPTED); /* in the trace */
+    reply_end(&reply);
+    return !PyErr_Occurred();
+}
+
+static int begin(TransactionObject *it)
+{
+    const char *name;
+    PyObject *bytes;
+    int has_begun;
+    if (!may_call(it->engine))
+        return 0;
+    if (it->name == Py_None)
+        return begin_in(it, NULL, 0);
+    bytes = PyObject_CallFunctionObjArgs(helpers.text_bytes, it->name, NULL);
+    name = bytes ? PyBytes_AsString(bytes) : NULL;
+    has_begun = name && begin_in(it, name, (size_t)PyBytes_Size(bytes));
+    Py_XDECREF(bytes);
+    return has_begun;
+}
+
+/* _begin(): begins, and gives the transaction itself. */
+static PyObject *transaction_begin(PyObject *self, PyObject *nothing)
+{
+    (void)nothing;
+    if (!begin((TransactionObject *)self))
+        return NULL;
+    Py_INCREF(self);
+    return self;
+}
+
+static PyObject *transaction_enter(PyObject *self, PyObject *nothing)
+{
+    TransactionObject *it = (TransactionObject *)self;
+    int may_retry = PyObject_IsTrue(it->retry);
+    if (may_retry < 0)
+        return NULL;
+    if (may_retry)
+        return raise_status(IS_RETRIED, NULL, NULL);
+    if (atomic_load(&it->state) != NOT_BEGUN)
+        return raise_status(IS_USED, NULL, NULL);
+    return transaction_begin(self, nothing);
+}
+
+/* ---- how it is left */
+
+/* Rolls back behind an exception, which goes on; but an interrupt in the trace takes its place. */
+static void roll_back_quietly(TransactionObject *it)
+{
+    PyObject *type, *value, *traceback;
+    Reply reply;
+    PyErr_Fetch(&type, &value, &traceback);
+    reply_start(&reply, 0);
+    if (call_fault(it->engine))
+        give_up(it, WAS_INTERRUPTED);
+    else
+        finish(it, &reply, SKEWGUARD_DO_ROLLBACK);
+    reply_end(&reply);
+    if (!PyErr_Occurred()) {
+        PyErr_Restore(type, value, traceback);
+        return;
+    }
+    Py_XDECREF(type);
+    Py_XDECREF(value);
+    Py_XDECREF(traceback);
+}
+
+/* __exit__(kind, value, traceback): COMMIT where the block came to its end; else, and where that finds no memory,
+ * ROLLBACK. */
+static PyObject *transaction_exit(PyObject *self, PyObject *args)
+{
+    TransactionObject *it = (TransactionObject *)self;
+    PyObject *kind = PyTuple_GetItem(args, 0);
+    if (!kind)
+        return NULL;
+    if (atomic_load(&it->state) == IS_OPEN && kind == Py_None)
+        finish_or_raise(it, SKEWGUARD_DO_COMMIT);
+    if (atomic_load(&it->state) == IS_OPEN)
+        roll_back_quietly(it);
+    return PyErr_Occurred() ? NULL : none();
+}
+
+static PyObject *transaction_commit(PyObject *self, PyObject *nothing)
+{
+    TransactionObject *it = (TransactionObject *)self;
+    (void)nothing;
+    return finish_or_raise(it, SKEWGUARD_DO_COMMIT) ? PyLong_FromUnsignedLongLong(it->number) : NULL;
+}
+
+static PyObject *transaction_rollback(PyObject *self, PyObject *nothing)
+{
+    (void)nothing;
+    return finish_or_raise((TransactionObject *)self, SKEWGUARD_DO_ROLLBACK) ? none() : NULL;
+}
+
+/* ---- its statements */
+
+/* Keeps a statement that was prepared, unless another thread has kept one of its text. The lock is held. */
+static void keep(EngineObject *it, PyObject *text, const Reply *reply, Statement *gone)
+{
+    skewguard_reader reader = reply_reader(reply);
+    uint64_t number = skewguard_read_number(&reader), parameters = skewguard_read_number(&reader);
+    int is_kept;
+    PyEval_RestoreThread(it->thread);
+    is_kept = !statements_find(&it->statements, text) && !PyErr_Occurred()
+        && statements_keep(&it->statements, text, number, parameters, gone);
+    it->thread = PyEval_SaveThread();
+    if (!is_kept)
+        engine_ask_of(&it->engine, SKEWGUARD_DO_FORGET, number);
+    if (gone->number)
+        engine_ask_of(&it->engine, SKEWGUARD_DO_FORGET, gone->number);
+}
+
+static int prepare(EngineObject *it, PyObject *text)
+{
+    Statement gone = {0};
+    Reply reply;
+    int32_t status;
+    PyObject *bytes = PyObject_CallFunctionObjArgs(helpers.text_bytes, text, NULL);
+    const char *request = bytes ? PyBytes_AsString(bytes) : NULL;
+    if (!request) {
+        Py_XDECREF(bytes);
+        return 0;
+    }
+    reply_start(&reply, 0);
+    status = enter(it);
+    if (!status) {
+        status = engine_make(&it->engine, &reply, SKEWGUARD_DO_PREPARE, (const unsigned char *)request,
+                             (size_t)PyBytes_Size(bytes));
+        if (!status)
+            keep(it, text, &reply, &gone);
+        leave(it);
+    }
+    if (status && !PyErr_Occurred())
+        raise_status(status, &reply, text);
+    reply_end(&reply);
+    statement_clear(&gone);
+    Py_DECREF(bytes);
+    return !PyErr_Occurred();
+}
+
+/* The prepared statement of a text, which others may take out once this thread lets go of the interpreter. */
+static Statement *prepared(EngineObject *it, PyObject *text)
+{
+    Statement *found = statements_find(&it->statements, text);
+    while (!found && !PyErr_Occurred() && prepare(it, text))
+        found = statements_find(&it->statements, text);
+    return found;
+}
+
+/* That the library has no such statement any more: another thread has taken it out. */
+static void drop(EngineObject *it, PyObject *text, uint64_t number)
+{
+    Statement *kept = statements_find(&it->statements, text), gone = {0};
+    if (kept && kept->number == number)
+        statements_drop(&it->statements, kept, &gone);
+    statement_clear(&gone);
+}
+
+/* Runs a statement by its number, in a transaction that has to be open. */
+static int32_t run_number(TransactionObject *it, uint64_t number, Request *request, Reply *reply)
+{
+    int32_t status = enter(it->engine);
+    if (status)
+        return status;
+    if (atomic_load(&it->state) == IS_OPEN) {
+        request_put(request, 0, it->session->number);
+        request_put(request, 1, number);
+        status = engine_event(&it->engine->engine, reply, SKEWGUARD_DO_RUN, request->bytes, request->length);
+        note(it, reply);
+    } else {
+        status = IS_ENDED;
+    }
+    leave(it->engine);
+    return status;
+}
+
+static void raise_count(uint64_t wanted, uint64_t given)
+{
+    PyObject *detail = Py_BuildValue("KK", (unsigned long long)wanted, (unsigned long long)given);
+    if (detail)
+        raise_status(SKEWGUARD_WRONG_COUNT, NULL, detail);
+    Py_XDECREF(detail);
+}
+
+/* The answer to a reply, or the exception of its status. */
+static PyObject *answered(TransactionObject *it, PyObject *text, int32_t status, const Reply *reply)
+{
+    Statement *kept;
+    if (PyErr_Occurred()) /* in the trace */
+        return NULL;
+    if (status)
+        return raise_of(it, status, reply, text);
+    kept = reply->capacity > REPLY_ROOM ? statements_find(&it->engine->statements, text) : NULL;
+    if (kept) /* the next reply may be as long */
+        kept->length = reply->length;
+    return PyErr_Occurred() ? NULL : answer_of(it->engine, text, reply);
+}
+
+/* Runs a statement with values, of which the request has the count and the bytes behind room for two numbers. */
+static PyObject *run(TransactionObject *it, PyObject *text, Request *request, uint64_t count)
+{
+    Statement *statement;
+    PyObject *answer;
+    uint64_t number;
+    int32_t status;
+    Reply reply;
+    for (;;) {
+        statement = prepared(it->engine, text);
+        if (!statement)
+            return NULL;
+        if (statement->parameters != count) {
+            raise_count(statement->parameters, count);
+            return NULL;
+        }
+        number = statement->number;
+        reply_start(&reply, statement->length);
+        status = run_number(it, number, request, &reply);
+        if (status != SKEWGUARD_NO_STATEMENT)
+            break;
+        drop(it->engine, text, number);
+        reply_end(&reply);
+    }
+    answer = answered(it, text, status, &reply);
+    reply_end(&reply);
+    return answer;
+}
+
+/* Runs a text that is a str, and no subtype of it, with values that are a list or a tuple. */
+static PyObject *execute(TransactionObject *it, PyObject *text, PyObject *values)
+{
+    PyObject *answer = NULL;
+    Request request;
+    uint64_t count = 0;
+    request_start(&request, 2);
+    if (request_add_values(&request, values, &count) && may_call(it->engine)) {
+        if (atomic_load(&it->state) == IS_OPEN)
+            answer = run(it, text, &request, count);
+        else
+            raise_of(it, IS_ENDED, NULL, NULL);
+    }
+    request_end(&request);
+    return answer;
+}
+
+/* The same with whatever a caller has given. */
+static PyObject *execute_taken(TransactionObject *it, PyObject *text, PyObject *values)
+{
+    PyObject *exact, *answer = NULL, *both;
+    if (!PyUnicode_Check(text))
+        return raise_status(IS_NO_TEXT, NULL, text);
+    exact = PyUnicode_FromObject(text);
+    both = exact ? PyObject_CallFunctionObjArgs(helpers.taken, exact, values, NULL) : NULL;
+    if (both && PyArg_ParseTuple(both, "UO!", &text, &PyList_Type, &values))
+        answer = execute(it, text, values);
+    Py_XDECREF(both);
+    Py_XDECREF(exact);
+    return answer;
+}
+
+/* execute(sql, values=()) */
+static PyObject *transaction_execute(PyObject *self, PyObject *args, PyObject *kwargs)
+{
+    static char *names[] = {"sql", "values", NULL};
+    PyObject *text, *values = empty;
+    Py_ssize_t count = kwargs ? 0 : PyTuple_Size(args);
+    if (count == 1 || count == 2) { /* as nearly always, and less work than the general way */
+        text = PyTuple_GetItem(args, 0);
+        if (count == 2)
+            values = PyTuple_GetItem(args, 1);
+    } else if (!PyArg_ParseTupleAndKeywords(args, kwargs, "O|O:execute", names, &text, &values)) {
+        return NULL;
+    }
+    if (PyUnicode_CheckExact(text) && (PyTuple_Check(values) || PyList_Check(values)))
+        return execute((TransactionObject *)self, text, values);
+    return execute_taken((TransactionObject *)self, text, values);
+}
+
+/* ---- what is known of it */
+
+static PyObject *transaction_snapshot(PyObject *self, void *closure)
+{
+    TransactionObject *it = (TransactionObject *)self;
+    (void)closure;
+    return it->session ? PyLong_FromUnsignedLongLong(it->snapshot) : none();
+}
+
+static PyObject *transaction_number(PyObject *self, void *closure)
+{
+    TransactionObject *it = (TransactionObject *)self;
+    (void)closure;
+    return it->number ? PyLong_FromUnsignedLongLong(it->number) : none();
+}
+
+static PyObject *transaction_state(PyObject *self, void *closure)
+{
+    (void)closure;
+    return PyLong_FromLong(atomic_load(&((TransactionObject *)self)->state));
+}
+
+static PyMethodDef transaction_methods[] = {
+    {"execute", (PyCFunction)(void (*)(void))transaction_execute, METH_VARARGS | METH_KEYWORDS,
+     "execute($self, /, sql, values=())\n--\n\n"
+     "Runs a statement, and gives what it was answered: a count, rows, a verdict.\n\n"
+     "Each `?` in the text stands for the next of the values, or each `:name` for that of the name, where they come\n"
+     "as a dict. Values are numbers, texts and None for NULL, and never become a part of the text. Raises, with\n"
+     "nothing of the statement left and the transaction going on:\n"
+     "ProgrammingError (a text that is not of the language, with line and column; a name that is not there; types\n"
+     "that don't fit), ParameterError and TypeError (values), DataError, IntegrityError, RuleViolated, NoMemory."},
+    {"commit", transaction_commit, METH_NOARGS,
+     "commit($self, /)\n--\n\n"
+     "Commits, and gives the number of the commit.\n\n"
+     "Raises RuleViolated, SerializationFailure and EpochFull, and the transaction has ended; NoMemory, and it is\n"
+     "open as before; or ReplyLost."},
+    {"rollback", transaction_rollback, METH_NOARGS,
+     "rollback($self, /)\n--\n\nEnds the transaction, and nothing of it is left."},
+    {"__enter__", transaction_enter, METH_NOARGS, NULL},
+    {"__exit__", transaction_exit, METH_VARARGS, NULL},
+    {"_begin", transaction_begin, METH_NOARGS, NULL},
+    {NULL, NULL, 0, NULL},
+};
+
+static PyMemberDef transaction_members[] = {
+    {"_engine", T_OBJECT_EX, offsetof(TransactionObject, engine), READONLY, NULL},
+    {"_name", T_OBJECT_EX, offsetof(TransactionObject, name), READONLY, NULL},
+    {"_retry", T_OBJECT_EX, offsetof(TransactionObject, retry), READONLY, NULL},
+    {"_read_only", T_BOOL, offsetof(TransactionObject, is_read_only), READONLY, NULL},
+    {"__weaklistoffset__", T_PYSSIZET, offsetof(TransactionObject, weak_references), READONLY, NULL},
+    {NULL, 0, 0, 0, NULL},
+};
+
+static PyGetSetDef transaction_properties[] = {
+    {"snapshot", transaction_snapshot, NULL, "How many commits its tables hold; None before it began.", NULL},
+    {"number", transaction_number, NULL, "The number of its commit; None without one.", NULL},
+    {"_state", transaction_state, NULL, NULL, NULL},
+    {NULL, NULL, NULL, NULL, NULL},
+};
+
+static PyType_Slot transaction_slots[] = {
+    {Py_tp_new, transaction_new},
+    {Py_tp_dealloc, transaction_dealloc},
+    {Py_tp_finalize, transaction_finalize},
+    {Py_tp_traverse, transaction_traverse},
+    {Py_tp_methods, transaction_methods},
+    {Py_tp_members, transaction_members},
+    {Py_tp_getset, transaction_properties},
+    {0, NULL},
+};
+
+PyType_Spec transaction_spec = {
+    "skewguard._native.Transaction",
+    sizeof(TransactionObject),
+    0,
+    Py_TPFLAGS_DEFAULT | Py_TPFLAGS_BASETYPE | Py_TPFLAGS_HAVE_GC,
+    transaction_slots,
+};

@@ -1,0 +1,22 @@
+"""Which implementation is used: that in C, or that over ctypes, where it was not built or is not wanted."""
+
+from __future__ import annotations
+
+import os
+from typing import Any, Optional
+
+__all__ = ["native"]
+
+
+def _native() -> Optional[Any]:
+    """The module in C. SKEWGUARD_CTYPES=1 in the environment leaves it out."""
+    if os.environ.get("SKEWGUARD_CTYPES") == "1":
+        return None
+    try:
+        from . import _native as module
+    except ImportError:
+        return None
+    return module
+
+
+native = _native()
