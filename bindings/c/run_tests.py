@@ -4,15 +4,18 @@
     bindings/c/run_tests.py [--library FOLDER]
 
 FOLDER is what tools/c_library.py made; without it, it is made of the proved archive. The header is compiled as C99 and
-as C++11 without a warning. Every call and every status (tests/calls.c), and the worked examples through the library
-against their reports (tests/replay.c), are run plain and under AddressSanitizer, which also looks for what was not
-given back. Then the examples are run with each allocation refused in turn: a call that found no memory is made once
-more, and the report has to come out the same. The last line says what passed; the status is 1 where something did not.
+as C++11 without a warning, and so are plain loops of rows (tests/loop.c), at each level of optimisation and by what
+pkg-config says of the package, where there is pkg-config. Every call and every status (tests/calls.c), threads with
+little stack and with a skewguard each (tests/threads.c), and the worked examples through the library against their
+reports (tests/replay.c), are run plain and under AddressSanitizer, which also looks for what was not given back. Then
+the examples are run with each allocation refused in turn: a call that found no memory is made once more, and the report
+has to come out the same. The last line says what passed; the status is 1 where something did not.
 """
 import argparse
 import concurrent.futures
 import os
 import pathlib
+import shutil
 import subprocess
 import sys
 import tempfile
@@ -20,10 +23,13 @@ import tempfile
 HERE = pathlib.Path(__file__).resolve().parent
 REPOSITORY = HERE.parent.parent
 EXAMPLES = "on-call", "ledger", "booking"
-PROGRAMS = "calls", "replay"
+PROGRAMS = "calls", "threads", "replay"
 SANITIZERS = "-fsanitize=address,undefined", "-fno-sanitize-recover=all"
 WARNINGS = "-Wall", "-Wextra", "-pedantic", "-Werror"
 MOST_ALLOCATIONS = 20000
+
+# What tests/loop.c prints.
+LOOPS = "1 ONE 10 1\n2 TWO 20 1\n10\n20\n"
 DESCRIPTOR = 9
 
 
@@ -54,9 +60,48 @@ def compile_headers(tests, work):
             tests.note(f"header by {compiler} {language[1]}", made.returncode == 0, made.stderr)
 
 
+def compile_loops(tests, library, work):
+    """A program as anyone writes it, by both compilers at each level, without a warning; it has to print its rows."""
+    for compiler in ("gcc", "clang"):
+        for language in (("-x", "c", "-std=c99"), ("-x", "c++", "-std=c++11")):
+            for level in ("-O0", "-O1", "-O2", "-O3", "-Os"):
+                words = (compiler, level, "-Wall", "-Wextra", "-Werror", f"-I{library}", *language)
+                ran = build_loop(library, work, *words)
+                tests.note(f"loops by {compiler} {level} {language[1]}", ran.stdout == LOOPS, ran.stdout + ran.stderr)
+
+
+def build_loop(library, work, *words):
+    """What the program of loops prints, or the compiler says."""
+    archive = library / "libskewguard.a"
+    made = run(*words, HERE / "tests" / "loop.c", "-x", "none", archive, "-o", work / "loop")
+    return made if made.returncode else run(work / "loop")
+
+
+def compile_by_package(tests, library, work):
+    """The same by the flags of packaging/skewguard.pc, as if it were installed in a root folder."""
+    if not shutil.which("pkg-config"):
+        return
+    root, triplet = work / "root", "x86_64-linux-gnu"
+    libraries = root / "usr/lib" / triplet
+    (libraries / "pkgconfig").mkdir(parents=True)
+    (root / "usr/include").mkdir()
+    shutil.copy(library / "skewguard.h", root / "usr/include")
+    for name in ("libskewguard.so", "libskewguard.so.0"):
+        shutil.copy(library / name, libraries)
+    text = (REPOSITORY / "packaging/skewguard.pc").read_text().replace("@TRIPLET@", triplet)
+    (libraries / "pkgconfig/skewguard.pc").write_text(text.replace("@VERSION@", "0.1.0"))
+    places = {"PKG_CONFIG_LIBDIR": str(libraries / "pkgconfig"), "PKG_CONFIG_SYSROOT_DIR": str(root)}
+    places |= {"PKG_CONFIG_ALLOW_SYSTEM_CFLAGS": "1", "PKG_CONFIG_ALLOW_SYSTEM_LIBS": "1"}
+    asked = run("pkg-config", "--cflags", "--libs", "skewguard", env=os.environ | places)
+    warnings = ("-O2", "-Wall", "-Wextra", "-Werror")
+    made = run("cc", *warnings, HERE / "tests/loop.c", *asked.stdout.split(), "-o", work / "by")
+    ran = run(work / "by", env={"LD_LIBRARY_PATH": str(libraries)}) if not made.returncode else made
+    tests.note("by pkg-config", ran.stdout == LOOPS, asked.stdout + asked.stderr + ran.stdout + ran.stderr)
+
+
 def build(name, library, out, *flags):
     """A test, linked with the static library."""
-    words = ("clang", "-std=c99", "-g", *flags, *WARNINGS, "-I", library, "-I", HERE / "tests")
+    words = ("clang", "-std=c99", "-g", "-pthread", *flags, *WARNINGS, "-I", library, "-I", HERE / "tests")
     made = run(*words, HERE / "tests" / f"{name}.c", library / "libskewguard.a", "-o", out)
     if made.returncode:
         sys.exit(made.stderr)
@@ -69,10 +114,11 @@ def example(name):
     return folder / "defs.sql", folder / "script.sql", (folder / "expected.txt").read_text()
 
 
-def run_programs(tests, kind, calls, replay):
+def run_programs(tests, kind, calls, threads, replay):
     """Each program, and each example."""
-    given = run(calls)
-    tests.note(f"calls, {kind}", given.returncode == 0, given.stdout + given.stderr)
+    for program in (calls, threads):
+        given = run(program)
+        tests.note(f"{program.name}, {kind}", given.returncode == 0, given.stdout + given.stderr)
     for name in EXAMPLES:
         definitions, script, report = example(name)
         given = run(replay, definitions, script)
@@ -117,6 +163,8 @@ def main():
         if not given.library:
             subprocess.run([sys.executable, REPOSITORY / "tools" / "c_library.py", library], check=True)
         compile_headers(tests, work)
+        compile_loops(tests, library.resolve(), work)
+        compile_by_package(tests, library.resolve(), work)
         plain = [build(name, library, work / name) for name in PROGRAMS]
         run_programs(tests, "plain", *plain)
         sanitized = [build(name, library, work / f"{name}_sanitized", *SANITIZERS) for name in PROGRAMS]
@@ -124,7 +172,7 @@ def main():
         preload = work / "refuse_malloc.so"
         refuser = REPOSITORY / "tools" / "refuse_malloc.c"
         subprocess.run(["cc", "-O2", "-shared", "-fPIC", refuser, "-o", preload], check=True)
-        refused = sum(refuse_each(tests, plain[1], preload, name) for name in EXAMPLES)
+        refused = sum(refuse_each(tests, plain[-1], preload, name) for name in EXAMPLES)
     print(f"C library: {tests.passed} passed, {tests.failed} failed, {refused} allocations refused")
     sys.exit(tests.failed != 0)
 

@@ -54,7 +54,7 @@ extern "C" {
  * | 0 the last reply again. Nothing has changed then | | as it was |
  * | 1 the line of the last answer or refusal in a report. Nothing has changed then | | text |
  * | 2 open a session | its name | session |
- * | 3 close a session. Its open transaction is rolled back | number of the session | changed |
+ * | 3 close a session. Its open transaction is rolled back, and its name is free | number of the session | changed |
  * | 4 prepare a statement | its text | statement |
  * | 5 forget a statement | number of the statement | changed |
  * | 6 run a statement | number of the session, number of the statement, how many values, and these | answer |
@@ -100,7 +100,8 @@ void skewguard_library_close(void *library);
 typedef enum skewguard_status {
     SKEWGUARD_DONE = 0,
     /* The event, the text or the definitions were refused: reply.refusal says why. A COMMIT that was refused with 10,
-     * 12, 13 or 17 has ended its transaction; after any other refusal nothing has changed. */
+     * 12, 13 or 17 has ended its transaction. After any other refusal the tables are as before; but what a refused
+     * statement has read counts, so an INSERT refused with 7 or 10 may make the COMMIT behind it dangerous (13). */
     SKEWGUARD_REFUSED = 1,
     /* No memory was left. Nothing has changed. */
     SKEWGUARD_NO_MEMORY = 2,
@@ -171,8 +172,36 @@ typedef struct skewguard_value {
     skewguard_text text;
 } skewguard_value;
 
-/* Why something was refused. The numbers and what each names are those of docs/LANGUAGE.md, "The faults". */
+/* What a refusal is for: the numbers of docs/LANGUAGE.md, "The faults", which says what each names. */
+typedef enum skewguard_fault {
+    SKEWGUARD_FAULT_NO_MEMORY = 1,
+    SKEWGUARD_FAULT_SYNTAX = 2,
+    SKEWGUARD_FAULT_UNKNOWN_NAME = 3,
+    SKEWGUARD_FAULT_NAME_TAKEN = 4,
+    SKEWGUARD_FAULT_TYPE = 5,
+    SKEWGUARD_FAULT_NULL_NOT_ALLOWED = 6,
+    SKEWGUARD_FAULT_DUPLICATE_KEY = 7,
+    SKEWGUARD_FAULT_KEY_UPDATE = 8,
+    SKEWGUARD_FAULT_OUT_OF_RANGE = 9,
+    SKEWGUARD_FAULT_RULE_VIOLATED = 10,
+    SKEWGUARD_FAULT_NOT_DEFERRABLE = 11,
+    SKEWGUARD_FAULT_WRITE_CONFLICT = 12,
+    SKEWGUARD_FAULT_DANGEROUS = 13,
+    SKEWGUARD_FAULT_NO_TRANSACTION = 14,
+    SKEWGUARD_FAULT_TRANSACTION_OPEN = 15,
+    SKEWGUARD_FAULT_EPOCH_FULL = 17,
+    SKEWGUARD_FAULT_TOO_WIDE = 18,
+    SKEWGUARD_FAULT_TOO_DEEP = 19,
+    SKEWGUARD_FAULT_OUTSIDE_CLASS = 20,
+    SKEWGUARD_FAULT_FALSE_AT_CREATION = 21,
+    SKEWGUARD_FAULT_ATTRIBUTE_CLASH = 22,
+    SKEWGUARD_FAULT_READ_ONLY = 23,
+    SKEWGUARD_FAULT_TOO_MANY_SESSIONS = 24
+} skewguard_fault;
+
+/* Why something was refused. */
 typedef struct skewguard_refusal {
+    /* A skewguard_fault. */
     int number;
     /* Five bytes, and a zero behind them; empty where there is none. */
     char sqlstate[6];
@@ -236,15 +265,18 @@ static inline void skewguard_close(skewguard *db);
 
 /*
  * Opens a session, in which one transaction at a time may be open. Case does not count in its name, which reports give.
- * The number that is left in *session was never given before. A name may be used again once its session is closed.
+ * The number that is left in *session was never given before.
  *
- * BAD_NAME, NAME_TAKEN; REFUSED with 24 where 256 other names have been used; NO_MEMORY, REPLY_WAITS, CLOSED,
- * BAD_REQUEST.
+ * BAD_NAME, NAME_TAKEN; REFUSED with 24 where 256 sessions are open; NO_MEMORY, REPLY_WAITS, CLOSED, BAD_REQUEST.
  */
 static inline skewguard_status skewguard_open_session(skewguard *db, const char *name, size_t length,
                                                       uint64_t *session);
 
-/* Closes a session. Its open transaction is rolled back. NO_SESSION, CLOSED, BAD_REQUEST. */
+/*
+ * Closes a session. Its open transaction is rolled back. The name may be given to a new session, and there is room for
+ * a session of any name, so that a service may have one for each of its users while 256 at most are open at once; what
+ * has been committed keeps the name in reports. NO_SESSION, CLOSED, BAD_REQUEST; REPLY_WAITS, and it is closed.
+ */
 static inline skewguard_status skewguard_close_session(skewguard *db, uint64_t session);
 
 /*
@@ -255,7 +287,7 @@ static inline skewguard_status skewguard_close_session(skewguard *db, uint64_t s
  */
 static inline skewguard_status skewguard_prepare(skewguard *db, const char *text, size_t length, uint64_t *statement);
 
-/* Lets a prepared statement go. NO_STATEMENT, CLOSED, BAD_REQUEST. */
+/* Lets a prepared statement go. NO_STATEMENT, CLOSED, BAD_REQUEST; REPLY_WAITS, and the statement is forgotten. */
 static inline skewguard_status skewguard_forget(skewguard *db, uint64_t statement);
 
 /* ---- events of a session */
@@ -290,8 +322,9 @@ static inline skewguard_status skewguard_report(skewguard *db);
  * may be empty. A new epoch then begins on the newest tables: its commits count from 1, and what was kept of the
  * commits before is given back. Its closing part is in reply.text.
  *
- * REFUSED with 15 while a transaction is open; with 3 a name that no rule has, with 2, 4, 5, 18 to 22 a rule that is
- * not taken in. Nothing has changed then. NO_MEMORY, REPLY_WAITS, CLOSED, BAD_REQUEST.
+ * BAD_NAME where a name in dropped is none. REFUSED with 15 while a transaction is open; with 3 a name that no rule
+ * has, or that a new rule uses and no table or column has; with 2, 4, 5, 18 to 22 a rule that is not taken in. Nothing
+ * has changed then. NO_MEMORY, CLOSED, BAD_REQUEST; REPLY_WAITS, and the rules are changed.
  */
 static inline skewguard_status skewguard_checkpoint(skewguard *db, const char *created, size_t length,
                                                     const skewguard_text *dropped, size_t count);
@@ -306,12 +339,21 @@ static inline skewguard_status skewguard_again(skewguard *db);
  * skewguard_again then gives the reply itself again. NO_MEMORY, REPLY_WAITS, CLOSED, BAD_REQUEST. */
 static inline skewguard_status skewguard_line(skewguard *db);
 
-/* The next row of a reply of rows, in cells, which has room for `room` values. 1 where there was one; 0 at the end, and
- * where a row has more values than there is room for. */
+/* The next row of a reply of rows, in cells, which has room for `room` values; those behind its last column are NULL. 1
+ * where there was one; 0 at the end, and where a row has more values than there is room for. */
 static inline int skewguard_next_row(skewguard *db, skewguard_value *cells, size_t room);
 
 /* The name of a column of a reply of rows, by its place from 0; empty where there is none. */
 static inline skewguard_text skewguard_column(const skewguard *db, uint64_t place);
+
+/* ---- what is said of a status and of a fault */
+
+/* What a status, or a fault by its number, means, in a few words; never null. */
+static inline const char *skewguard_status_text(skewguard_status status);
+static inline const char *skewguard_fault_text(int number);
+
+/* Whether others were in the way of a COMMIT (12, 13), so that the same transaction may be run again from its BEGIN. */
+static inline int skewguard_may_retry(const skewguard_refusal *refusal);
 
 /* ---- parameters */
 
@@ -362,6 +404,99 @@ static inline skewguard_value skewguard_characters(const char *bytes, size_t len
     return value;
 }
 
+/* -- texts */
+
+static inline const char *skewguard_status_text(skewguard_status status)
+{
+    switch (status) {
+    case SKEWGUARD_DONE:
+        return "done";
+    case SKEWGUARD_REFUSED:
+        return "refused";
+    case SKEWGUARD_NO_MEMORY:
+        return "no memory is left";
+    case SKEWGUARD_REPLY_WAITS:
+        return "the call was answered, but there was no memory for its reply";
+    case SKEWGUARD_BAD_REQUEST:
+        return "an argument is null, or none that is taken";
+    case SKEWGUARD_NO_SESSION:
+        return "the session is closed, or was never opened";
+    case SKEWGUARD_NO_STATEMENT:
+        return "the statement is forgotten, or was never prepared";
+    case SKEWGUARD_WRONG_COUNT:
+        return "the statement has another number of parameters";
+    case SKEWGUARD_BAD_VALUE:
+        return "a value may not stand where it was given";
+    case SKEWGUARD_BAD_NAME:
+        return "a name is a letter, then letters, digits and _, 128 at most, and no reserved word";
+    case SKEWGUARD_NAME_TAKEN:
+        return "a session of this name is open";
+    case SKEWGUARD_CLOSED:
+        return "the database is closed, or its definitions were refused";
+    }
+    return "another status";
+}
+
+static inline const char *skewguard_fault_text(int number)
+{
+    switch (number) {
+    case SKEWGUARD_FAULT_NO_MEMORY:
+        return "no memory is left";
+    case SKEWGUARD_FAULT_SYNTAX:
+        return "syntax error";
+    case SKEWGUARD_FAULT_UNKNOWN_NAME:
+        return "nothing has this name";
+    case SKEWGUARD_FAULT_NAME_TAKEN:
+        return "the name is taken";
+    case SKEWGUARD_FAULT_TYPE:
+        return "values and columns differ in number or type";
+    case SKEWGUARD_FAULT_NULL_NOT_ALLOWED:
+        return "the column takes no NULL";
+    case SKEWGUARD_FAULT_DUPLICATE_KEY:
+        return "the table has a row under this key already";
+    case SKEWGUARD_FAULT_KEY_UPDATE:
+        return "no UPDATE may set a key";
+    case SKEWGUARD_FAULT_OUT_OF_RANGE:
+        return "the value is beyond the range, or the length, of its column";
+    case SKEWGUARD_FAULT_RULE_VIOLATED:
+        return "an assertion would be false";
+    case SKEWGUARD_FAULT_NOT_DEFERRABLE:
+        return "the assertion is not DEFERRABLE";
+    case SKEWGUARD_FAULT_WRITE_CONFLICT:
+        return "another transaction has changed the same row: run this one again";
+    case SKEWGUARD_FAULT_DANGEROUS:
+        return "the reads and writes of transactions allow no serial order: run this one again";
+    case SKEWGUARD_FAULT_NO_TRANSACTION:
+        return "no transaction is open in this session";
+    case SKEWGUARD_FAULT_TRANSACTION_OPEN:
+        return "a transaction is open";
+    case SKEWGUARD_FAULT_EPOCH_FULL:
+        return "there are as many commits as may be: a checkpoint begins a new epoch";
+    case SKEWGUARD_FAULT_TOO_WIDE:
+        return "arithmetic could pass the range in which it is exact";
+    case SKEWGUARD_FAULT_TOO_DEEP:
+        return "parentheses nest too deep";
+    case SKEWGUARD_FAULT_OUTSIDE_CLASS:
+        return "this is none of the assertions and conditions that are taken";
+    case SKEWGUARD_FAULT_FALSE_AT_CREATION:
+        return "the assertion is false on the rows that are there";
+    case SKEWGUARD_FAULT_ATTRIBUTE_CLASH:
+        return "the attributes of the assertion exclude each other";
+    case SKEWGUARD_FAULT_READ_ONLY:
+        return "the transaction is READ ONLY";
+    case SKEWGUARD_FAULT_TOO_MANY_SESSIONS:
+        return "there are as many sessions as may be open at once";
+    default:
+        return "another fault";
+    }
+}
+
+static inline int skewguard_may_retry(const skewguard_refusal *refusal)
+{
+    return refusal
+        && (refusal->number == SKEWGUARD_FAULT_WRITE_CONFLICT || refusal->number == SKEWGUARD_FAULT_DANGEROUS);
+}
+
 /* -- a reader of the reply: past its end it gives zeros, and stays there */
 
 typedef struct skewguard_reader {
@@ -387,6 +522,11 @@ static inline uint64_t skewguard_read_number(skewguard_reader *reader)
 {
     uint64_t number = 0;
     unsigned place;
+    if (reader->length - reader->at >= sizeof number) { /* x86-64 has the lowest byte first, too */
+        memcpy(&number, reader->bytes + reader->at, sizeof number);
+        reader->at += sizeof number;
+        return number;
+    }
     for (place = 0; place < 64; place += 8)
         number |= (uint64_t)skewguard_read_byte(reader) << place;
     return number;
@@ -504,6 +644,7 @@ static inline int skewguard_next_row(skewguard *db, skewguard_value *cells, size
     size_t place;
     if (!db || !cells || !db->rows_left || db->reply.columns > room)
         return 0;
+    memset(cells, 0, room * sizeof *cells);
     reader = skewguard_read_from(db, db->next_row_at);
     for (place = 0; place < db->reply.columns; place++)
         cells[place] = skewguard_read_value(&reader);
@@ -565,11 +706,7 @@ static inline int skewguard_add_bytes(skewguard *db, const void *bytes, size_t l
 
 static inline int skewguard_add_number(skewguard *db, uint64_t number)
 {
-    unsigned char bytes[8];
-    unsigned place;
-    for (place = 0; place < 8; place++)
-        bytes[place] = (unsigned char)(number >> 8 * place);
-    return skewguard_add_bytes(db, bytes, 8);
+    return skewguard_add_bytes(db, &number, sizeof number); /* x86-64 has the lowest byte first, too */
 }
 
 static inline int skewguard_add_value(skewguard *db, const skewguard_value *value)

@@ -89,6 +89,55 @@ static void sessions(void)
     skewguard_close(&db);
 }
 
+/* A session for each of five hundred users, beside one that stays open; a commit keeps its name. */
+static void session_names(void)
+{
+    skewguard db;
+    uint64_t stays, user;
+    char name[16];
+    int place;
+
+    open_clinic(&db);
+    open_session(&db, "STAYS", &stays);
+    skewguard_begin(&db, stays);
+    for (place = 0; place < 500; place++) {
+        snprintf(name, sizeof name, "USER%d", place);
+        EXPECT(open_session(&db, name, &user) == SKEWGUARD_DONE);
+        EXPECT(skewguard_begin(&db, user) == SKEWGUARD_DONE && skewguard_commit(&db, user) == SKEWGUARD_DONE);
+        EXPECT(skewguard_close_session(&db, user) == SKEWGUARD_DONE);
+    }
+    EXPECT(execute(&db, stays, "DELETE FROM DUTY WHERE ID = 1") == SKEWGUARD_DONE);
+    EXPECT(skewguard_commit(&db, stays) == SKEWGUARD_DONE && db.reply.number == 501);
+    EXPECT(skewguard_report(&db) == SKEWGUARD_DONE);
+    EXPECT(begins_with(db.reply.text, "COMMITS 501\n1 USER0 SNAPSHOT 0 ROWS 0\n2 USER1 SNAPSHOT 1 ROWS 0\n"));
+    skewguard_close(&db);
+}
+
+/* As many sessions are open as may be: each goes on, and one that is closed makes room for another name. */
+static void sessions_at_once(void)
+{
+    skewguard db;
+    uint64_t held[256], never = 77;
+    char name[16];
+    int place;
+
+    open_clinic(&db);
+    for (place = 0; place < 256; place++) {
+        snprintf(name, sizeof name, "USER%d", place);
+        EXPECT(open_session(&db, name, &held[place]) == SKEWGUARD_DONE);
+        EXPECT(skewguard_begin(&db, held[place]) == SKEWGUARD_DONE);
+    }
+    EXPECT(open_session(&db, "ONETOOMANY", &never) == SKEWGUARD_REFUSED && never == 77);
+    EXPECT(is_refused(&db, 24, "", "SESSION: REFUSED 24 - TOO MANY SESSIONS\n"));
+    for (place = 0; place < 256; place++)
+        EXPECT(execute(&db, held[place], "SELECT * FROM DUTY") == SKEWGUARD_DONE && db.reply.rows == 2);
+    EXPECT(skewguard_close_session(&db, held[100]) == SKEWGUARD_DONE);
+    EXPECT(open_session(&db, "ONETOOMANY", &never) == SKEWGUARD_DONE);
+    EXPECT(open_session(&db, "USER100", &never) == SKEWGUARD_REFUSED);
+    EXPECT(skewguard_commit(&db, held[255]) == SKEWGUARD_DONE);
+    skewguard_close(&db);
+}
+
 static void statements(void)
 {
     skewguard db;
@@ -324,10 +373,58 @@ static void bytes(void)
     skewguard_library_close(library);
 }
 
+/* Each status and each fault has words of its own. */
+static void texts(void)
+{
+    const char *seen[40];
+    int count = 0, number, other, unknown = 0;
+
+    for (number = SKEWGUARD_DONE; number <= SKEWGUARD_CLOSED; number++)
+        seen[count++] = skewguard_status_text((skewguard_status)number);
+    for (number = 2; number <= 24; number++) {
+        const char *text = skewguard_fault_text(number);
+        unknown += !strcmp(text, "another fault");
+        if (number != 15 && number != 16) /* the texts of which are those of others */
+            seen[count++] = text;
+    }
+    EXPECT(unknown == 1); /* 16 is none of this library */
+    for (number = 0; number < count; number++)
+        for (other = 0; other < number; other++)
+            EXPECT(seen[number][0] && strcmp(seen[number], seen[other]));
+    EXPECT(!strcmp(skewguard_status_text((skewguard_status)99), "another status"));
+    EXPECT(!strcmp(skewguard_fault_text(99), "another fault") && !strcmp(skewguard_fault_text(0), "another fault"));
+}
+
+static void retries(void)
+{
+    skewguard db;
+    uint64_t bob, carol;
+
+    open_clinic(&db);
+    open_session(&db, "BOB", &bob);
+    open_session(&db, "CAROL", &carol);
+    skewguard_begin(&db, bob);
+    skewguard_begin(&db, carol);
+    execute(&db, bob, "UPDATE DUTY SET DOCTOR = 'LEE' WHERE ID = 1");
+    execute(&db, carol, "UPDATE DUTY SET DOCTOR = 'MAY' WHERE ID = 1");
+    EXPECT(skewguard_commit(&db, bob) == SKEWGUARD_DONE && !skewguard_may_retry(&db.reply.refusal));
+    EXPECT(skewguard_commit(&db, carol) == SKEWGUARD_REFUSED && skewguard_may_retry(&db.reply.refusal));
+    EXPECT(db.reply.refusal.number == SKEWGUARD_FAULT_WRITE_CONFLICT);
+    skewguard_begin(&db, carol);
+    EXPECT(execute(&db, carol, "DELETE FROM DUTY") == SKEWGUARD_REFUSED && !skewguard_may_retry(&db.reply.refusal));
+    EXPECT(db.reply.refusal.number == SKEWGUARD_FAULT_RULE_VIOLATED);
+    EXPECT(!skewguard_may_retry(NULL));
+    skewguard_close(&db);
+}
+
 int main(void)
 {
     opening();
     sessions();
+    session_names();
+    sessions_at_once();
+    texts();
+    retries();
     statements();
     events();
     checkpoints();

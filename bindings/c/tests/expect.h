@@ -24,6 +24,11 @@ static inline int is_text(skewguard_text text, const char *bytes)
     return text.length == strlen(bytes) && (!text.length || !memcmp(text.bytes, bytes, text.length));
 }
 
+static inline int begins_with(skewguard_text text, const char *bytes)
+{
+    return text.length >= strlen(bytes) && !memcmp(text.bytes, bytes, strlen(bytes));
+}
+
 static inline int is_number(skewguard_value value, int64_t number)
 {
     return value.kind == SKEWGUARD_NUMBER && value.number == number;

@@ -125,7 +125,7 @@ pub enum Fault {
     },
     /// 23: the transaction is READ ONLY.
     ReadOnlyTransaction,
-    /// 24: there are as many sessions as may be.
+    /// 24: 256 transactions are open, as many as may be at once.
     TooManySessions,
     /// A number that this crate does not know.
     Other,
@@ -162,16 +162,35 @@ pub enum Error {
         /// So many values came.
         given: u64,
     },
-    /// A value that may not stand where it was given: a number beyond 10^15, a text of other than printable ASCII, or
-    /// NULL in a condition (write IS NULL). Nothing was run.
-    BadValue {
+    /// A number beyond 10^15, which no table holds. Nothing was run.
+    NumberOutOfRange {
+        /// The parameter, from 1.
+        parameter: u64,
+    },
+    /// A text with a character that is none of printable ASCII. Nothing was run.
+    TextNotPlain {
+        /// The parameter, from 1.
+        parameter: u64,
+        /// The place of the character in it, from 1.
+        character: usize,
+    },
+    /// NULL where the grammar has none: a condition says IS NULL. Nothing was run.
+    NullNotAllowed {
         /// The parameter, from 1.
         parameter: u64,
     },
     /// No name of a session: a letter and then letters, digits and `_`, 128 at most, and no reserved word.
-    BadName,
+    BadSessionName {
+        /// What was given.
+        name: String,
+    },
+    /// A name to drop that no rule can have, for the same reasons. Nothing has changed.
+    BadRuleName,
     /// The manager handed the session of this name out by itself.
-    NameTaken,
+    NameTaken {
+        /// The name.
+        name: String,
+    },
     /// The transaction has ended: COMMIT or ROLLBACK was run in it as a text.
     Ended,
     /// The library is another one than this crate was written for.
@@ -179,7 +198,7 @@ pub enum Error {
         /// The number of its layout.
         layout: u64,
     },
-    /// A text or a limit is beyond what the library takes.
+    /// A status that no call of this crate is answered, but by another library.
     Library {
         /// The status of the call.
         status: i32,
@@ -212,6 +231,9 @@ impl Error {
     }
 }
 
+/// What a name is.
+const NAMES: &str = "a name is a letter and then letters, digits and _, 128 at most, and no reserved word";
+
 impl std::error::Error for Error {}
 
 impl fmt::Display for Error {
@@ -223,16 +245,22 @@ impl fmt::Display for Error {
             Error::WrongCount { wanted, given } => {
                 write!(to, "the statement has {wanted} parameters, and {given} values came")
             }
-            Error::BadValue { parameter } => write!(
-                to,
-                "value {parameter} may not stand there: a number is at most 10^15, a text is of printable ASCII, and \
-                 for NULL a condition says IS NULL"
-            ),
-            Error::BadName => to.write_str(
-                "the name of a session is a letter and then letters, digits and _, 128 at most, and no reserved word",
-            ),
+            Error::NumberOutOfRange { parameter } => {
+                write!(to, "value {parameter}: it is not from -10^15 to 10^15, as numbers are")
+            }
+            Error::TextNotPlain { parameter, character } => {
+                write!(
+                    to,
+                    "value {parameter}: its character {character} is none of printable ASCII, of which texts are"
+                )
+            }
+            Error::NullNotAllowed { parameter } => {
+                write!(to, "value {parameter} may not be NULL there: a condition says IS NULL")
+            }
+            Error::BadSessionName { name } => write!(to, "{name:?} is no name of a session: {NAMES}"),
+            Error::BadRuleName => write!(to, "a name to drop is that of no rule: {NAMES}"),
             Error::Ended => to.write_str("the transaction has ended"),
-            Error::NameTaken => to.write_str("the manager handed the session of this name out by itself"),
+            Error::NameTaken { name } => write!(to, "the manager handed the session {name} out by itself"),
             Error::OtherLibrary { layout } => {
                 write!(to, "the library has the layout {layout}: it is another one than this crate was written for")
             }
@@ -282,7 +310,7 @@ impl fmt::Display for Refusal {
             }
             Fault::AttributeClash { rule } => write!(to, "the attributes of {rule} exclude each other"),
             Fault::ReadOnlyTransaction => to.write_str("the transaction is READ ONLY"),
-            Fault::TooManySessions => to.write_str("there are as many sessions as may be"),
+            Fault::TooManySessions => to.write_str("too many transactions are open at once: there may be 256"),
             Fault::Other => to.write_str(&self.report),
         }
     }

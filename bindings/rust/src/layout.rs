@@ -12,6 +12,7 @@ pub enum Operation {
     Again = 0,
     Line = 1,
     OpenSession = 2,
+    CloseSession = 3,
     Prepare = 4,
     Forget = 5,
     Run = 6,
@@ -32,7 +33,6 @@ pub mod status {
     pub const WRONG_COUNT: i32 = 7;
     pub const BAD_VALUE: i32 = 8;
     pub const BAD_NAME: i32 = 9;
-    pub const NAME_TAKEN: i32 = 10;
 }
 
 /// What a reply is of: its first byte.

@@ -3,6 +3,7 @@
 use std::collections::HashMap;
 use std::ffi::c_void;
 use std::ptr;
+use std::sync::Arc;
 
 use crate::errors::Error;
 use crate::layout::{
@@ -33,10 +34,23 @@ const FETCHES: u32 = 3;
 /// What is told the line of each event.
 pub type Trace = Box<dyn FnMut(&str) + Send>;
 
-/// A session of the library, while it has one transaction.
+/// The fault of a session more than may be open.
+const TOO_MANY_SESSIONS: u32 = 24;
+
+/// A session of the library, while it has one transaction: its name, and its number.
+#[derive(Clone)]
 pub struct Seat {
-    pub session: u64,
+    name: Arc<str>,
+    session: u64,
+}
+
+/// What is known of an open session.
+struct Session {
+    number: u64,
     is_pooled: bool,
+    has_transaction: bool,
+    /// When it was used last, as a count of uses.
+    used: u64,
 }
 
 struct Statement {
@@ -53,9 +67,10 @@ pub struct Library {
     length: usize,
     statements: HashMap<String, Statement>,
     uses: u64,
-    free: Vec<u64>,
-    named: HashMap<String, u64>,
-    pooled: u64,
+    /// The open sessions, by their names.
+    sessions: HashMap<Arc<str>, Session>,
+    /// The pooled sessions without a transaction.
+    free: Vec<Seat>,
     lost: Vec<Seat>,
     trace: Option<Trace>,
 }
@@ -89,9 +104,8 @@ impl Library {
             length: 0,
             statements: HashMap::new(),
             uses: 0,
+            sessions: HashMap::new(),
             free: Vec::new(),
-            named: HashMap::new(),
-            pooled: 0,
             lost: Vec::new(),
             trace,
         };
@@ -169,10 +183,9 @@ impl Library {
             status::REFUSED => refusal(self.reply(), text),
             status::NO_MEMORY => Error::NoMemory,
             status::REPLY_WAITS => Error::ReplyLost,
-            status::BAD_VALUE => Error::BadValue { parameter: misused() },
+            status::BAD_VALUE => Error::NullNotAllowed { parameter: misused() },
             status::WRONG_COUNT => Error::WrongCount { wanted: misused(), given: 0 },
-            status::BAD_NAME => Error::BadName,
-            status::NAME_TAKEN => Error::NameTaken,
+            status::BAD_NAME => Error::BadRuleName, // of a session `seat` says so
             status => Error::Library { status },
         }
     }
@@ -210,33 +223,64 @@ impl Library {
 
     /// A seat in the session of a name, or in one that no transaction uses.
     fn seat(&mut self, name: Option<&str>) -> Result<Seat, Error> {
-        if let Some(name) = name {
-            let key = name.to_ascii_uppercase();
-            if let Some(&session) = self.named.get(&key) {
-                return Ok(Seat { session, is_pooled: false });
-            }
-            let session = self.open_session(name)?;
-            self.named.insert(key, session);
-            return Ok(Seat { session, is_pooled: false });
-        }
-        if let Some(session) = self.free.pop() {
-            return Ok(Seat { session, is_pooled: true });
-        }
-        loop {
-            self.pooled += 1;
-            let name = format!("RUST{}", self.pooled);
-            if !self.named.contains_key(&name) {
-                let session = self.open_session(&name)?;
-                return Ok(Seat { session, is_pooled: true });
-            }
+        let Some(name) = name else {
+            return match self.free.pop() {
+                Some(seat) => Ok(seat),
+                None => self.open_session(self.pooled_name(), true),
+            };
+        };
+        let key = name.to_ascii_uppercase();
+        match self.sessions.get_key_value(key.as_str()) {
+            Some((_, session)) if session.is_pooled => Err(Error::NameTaken { name: name.to_owned() }),
+            Some((name, session)) => Ok(Seat { name: name.clone(), session: session.number }),
+            None => self.open_session(key, false).map_err(|error| match error {
+                Error::BadRuleName => Error::BadSessionName { name: name.to_owned() },
+                error => error,
+            }),
         }
     }
 
-    fn open_session(&mut self, name: &str) -> Result<u64, Error> {
+    /// The first name of the pool that no open session has.
+    fn pooled_name(&self) -> String {
+        let mut names = (1..).map(|number: u64| format!("RUST{number}"));
+        names.find(|name| !self.sessions.contains_key(name.as_str())).unwrap_or_default()
+    }
+
+    /// Opens the session of a new name. Where as many are open as may be, one without a transaction makes room.
+    fn open_session(&mut self, name: String, is_pooled: bool) -> Result<Seat, Error> {
+        let opened = match self.opened(&name) {
+            Err(Error::Refused(refusal)) if refusal.number == TOO_MANY_SESSIONS && self.close_idle() => {
+                self.opened(&name)
+            }
+            opened => opened,
+        };
+        let (number, name): (_, Arc<str>) = (opened?, name.into());
+        let session = Session { number, is_pooled, has_transaction: false, used: self.uses };
+        self.sessions.insert(name.clone(), session);
+        Ok(Seat { name, session: number })
+    }
+
+    /// The number of a new session.
+    fn opened(&mut self, name: &str) -> Result<u64, Error> {
         self.request.clear();
         self.request.extend_from_slice(name.as_bytes());
         self.call(Operation::OpenSession, "").map_err(unheard)?;
         Ok(Reader::new(self.reply()).number())
+    }
+
+    /// Closes the session that was used longest ago, of those without a transaction; false where there is none.
+    fn close_idle(&mut self) -> bool {
+        let idle = self.sessions.iter().filter(|(_, it)| !it.has_transaction);
+        let Some(name) = idle.min_by_key(|(_, it)| it.used).map(|(name, _)| name.clone()) else {
+            return false;
+        };
+        if let Some(session) = self.sessions.remove(&name) {
+            self.free.retain(|seat| seat.name != name);
+            self.request.clear();
+            add_number(&mut self.request, session.number);
+            let _ = self.ask(Operation::CloseSession);
+        }
+        true
     }
 
     /// Begins a transaction, and tells how many commits it sees.
@@ -246,7 +290,13 @@ impl Library {
         let operation = if read_only { Operation::BeginReadOnly } else { Operation::Begin };
         self.request.clear();
         add_number(&mut self.request, seat.session);
-        match self.event(operation, "").map(|reply| Reader::new(reply).number()) {
+        let has_transaction = self.sessions.get(&seat.name).is_some_and(|it| it.has_transaction);
+        let begun = self.event(operation, "").map(|reply| Reader::new(reply).number());
+        if has_transaction {
+            return begun.map(|snapshot| (seat, snapshot)); // it is refused, and goes on
+        }
+        self.note_use(&seat);
+        match begun {
             Ok(snapshot) => Ok((seat, snapshot)),
             Err(Error::ReplyLost) => {
                 self.lose(&seat);
@@ -256,6 +306,15 @@ impl Library {
                 self.give_back(&seat);
                 Err(error)
             }
+        }
+    }
+
+    /// That a transaction has a session.
+    fn note_use(&mut self, seat: &Seat) {
+        self.uses += 1;
+        if let Some(session) = self.sessions.get_mut(&seat.name) {
+            session.has_transaction = true;
+            session.used = self.uses;
         }
     }
 
@@ -284,7 +343,7 @@ impl Library {
     /// That a reply was lost. Whatever it said, a ROLLBACK leaves no transaction in the session: it comes before the
     /// next begin.
     pub fn lose(&mut self, seat: &Seat) {
-        self.lost.push(Seat { session: seat.session, is_pooled: seat.is_pooled });
+        self.lost.push(seat.clone());
     }
 
     /// Rolls back what was lost with a reply.
@@ -299,8 +358,11 @@ impl Library {
 
     /// That a transaction has ended, and its session is free.
     pub fn give_back(&mut self, seat: &Seat) {
-        if seat.is_pooled {
-            self.free.push(seat.session);
+        if let Some(session) = self.sessions.get_mut(&seat.name) {
+            session.has_transaction = false;
+            if session.is_pooled {
+                self.free.push(seat.clone());
+            }
         }
     }
 
@@ -318,7 +380,10 @@ impl Library {
         for value in values {
             add_value(&mut self.request, value);
         }
-        self.event(Operation::Run, text)
+        self.event(Operation::Run, text).map_err(|error| match error {
+            Error::NullNotAllowed { parameter } => unfit(parameter, values),
+            error => error,
+        })
     }
 
     /// The prepared statement of a text, and its parameters: as it was kept, or a new one, for which the one that was
@@ -369,6 +434,19 @@ impl Library {
         }
         self.call(Operation::Checkpoint, create)?;
         Ok(Reader::new(self.reply()).text())
+    }
+}
+
+/// Why a value may not stand where it was given.
+fn unfit(parameter: u64, values: &[Value]) -> Error {
+    let value = usize::try_from(parameter).ok().and_then(|place| values.get(place.wrapping_sub(1)));
+    match value {
+        Some(Value::Int(_)) => Error::NumberOutOfRange { parameter },
+        Some(Value::Text(text)) => {
+            let odd = text.chars().position(|it| !matches!(it, ' '..='~'));
+            Error::TextNotPlain { parameter, character: odd.map_or(0, |place| place + 1) }
+        }
+        _ => Error::NullNotAllowed { parameter },
     }
 }
 

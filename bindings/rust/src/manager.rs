@@ -128,7 +128,8 @@ impl<'m, 's> TransactionBuilder<'m, 's> {
         self
     }
 
-    /// The name under which reports tell of it; without one the manager gives it one. A manager takes 256 names.
+    /// The name under which reports tell of it; without one the manager gives it one. There may be any number of names;
+    /// 256 transactions may be open at once.
     pub fn session<'n>(self, name: &'n str) -> TransactionBuilder<'m, 'n> {
         TransactionBuilder { manager: self.manager, read_only: self.read_only, session: Some(name), retry: self.retry }
     }

@@ -1,5 +1,6 @@
 //! Each public call, and what a careless caller does: a clear error, and nothing lost.
 
+use std::collections::HashSet;
 use std::sync::atomic::{AtomicUsize, Ordering};
 use std::sync::Barrier;
 use std::thread;
@@ -199,11 +200,37 @@ fn read_only_and_session_names() {
     t.commit().unwrap();
     assert!(manager.report().unwrap().contains("1 ANN SNAPSHOT 0 ROWS 0"));
     for name in ["", "A B", "1A", "SELECT", "Ren\u{e9}", "\0"] {
-        assert_eq!(manager.transaction().session(name).begin().unwrap_err(), Error::BadName, "{name:?}");
+        let wanted = Error::BadSessionName { name: name.to_owned() };
+        assert_eq!(manager.transaction().session(name).begin().unwrap_err(), wanted);
     }
     manager.transaction().session("RUST1").begin().unwrap().commit().unwrap();
     manager.begin().unwrap().commit().unwrap();
-    assert_eq!(manager.transaction().session("RUST2").begin().unwrap_err(), Error::NameTaken);
+    let taken = manager.transaction().session("RUST2").begin().unwrap_err();
+    assert_eq!(taken, Error::NameTaken { name: "RUST2".to_owned() });
+    assert_eq!(manager.checkpoint("", &["NO RULE"]), Err(Error::BadRuleName));
+    assert_eq!(fault_of(manager.checkpoint("", &["NORULE"])), Fault::UnknownName { name: "NORULE".into() });
+}
+
+#[test]
+fn each_error_has_words() {
+    let errors = [
+        Error::NoMemory,
+        Error::ReplyLost,
+        Error::WrongCount { wanted: 3, given: 1 },
+        Error::NumberOutOfRange { parameter: 2 },
+        Error::TextNotPlain { parameter: 2, character: 4 },
+        Error::NullNotAllowed { parameter: 2 },
+        Error::BadSessionName { name: "A B".into() },
+        Error::BadRuleName,
+        Error::NameTaken { name: "RUST2".into() },
+        Error::Ended,
+        Error::OtherLibrary { layout: 7 },
+        Error::Library { status: 77 },
+    ];
+    let words: Vec<String> = errors.iter().map(ToString::to_string).collect();
+    assert_eq!(words.iter().collect::<HashSet<_>>().len(), errors.len(), "{words:?}");
+    assert_eq!(words[4], "value 2: its character 4 is none of printable ASCII, of which texts are");
+    assert!(words[6].starts_with("\"A B\" is no name of a session: a name is a letter"), "{}", words[6]);
 }
 
 #[test]
@@ -232,20 +259,16 @@ fn values_come_back_as_they_were_given() {
 fn values_that_do_not_suit() {
     let manager = opened();
     let mut t = manager.begin().unwrap();
-    for value in [
-        Value::Int(1_000_000_000_000_001),
-        Value::Int(i64::MIN),
-        Value::Int(i64::MAX),
-        Value::from("Ren\u{e9}"),
-        Value::from("a\nb"),
-        Value::from("\0"),
-        Value::from("\u{7f}"),
-    ] {
-        let answer = t.execute(INSERT, &values![3, value.clone(), 0]);
-        assert_eq!(answer, Err(Error::BadValue { parameter: 2 }), "{value:?}");
+    for number in [1_000_000_000_000_001, i64::MIN, i64::MAX] {
+        let answer = t.execute(INSERT, &values![3, number, 0]);
+        assert_eq!(answer, Err(Error::NumberOutOfRange { parameter: 2 }), "{number}");
     }
-    let null = t.execute("SELECT * FROM DUTY WHERE DOCTOR = ?", &values![Value::Null]);
-    assert_eq!(null, Err(Error::BadValue { parameter: 1 }));
+    for (text, character) in [("Ren\u{e9}", 4), ("a\nb", 2), ("\0", 1), ("\u{7f}", 1)] {
+        let answer = t.execute(INSERT, &values![3, text, 0]);
+        assert_eq!(answer, Err(Error::TextNotPlain { parameter: 2, character }), "{text:?}");
+    }
+    let null = t.execute("SELECT * FROM DUTY WHERE ID > ? AND DOCTOR = ?", &values![0, Value::Null]);
+    assert_eq!(null, Err(Error::NullNotAllowed { parameter: 2 }));
     assert_eq!(t.execute(INSERT, &values![3]), Err(Error::WrongCount { wanted: 3, given: 1 }));
     assert_eq!(t.execute(ALL, &values![3]), Err(Error::WrongCount { wanted: 0, given: 1 }));
     t.commit().unwrap();
