@@ -14,6 +14,7 @@ minutes, not those of a clock; the runs of tests and programs and the gate's own
 """
 import argparse
 import collections
+import glob
 import json
 import os
 import re
@@ -82,20 +83,22 @@ def watch(is_running, top):
 
 
 def edits_of(top, crate):
-    folder = f"{top}/crates/{crate}/must-fail"
-    return sum(it.endswith(".edit") for it in os.listdir(folder)) if os.path.isdir(folder) else 0
+    """How many edits of a crate the gate tries, and how many tools/edits.py tries."""
+    folders = [f"{top}/crates/{crate}/{name}" for name in ("must-fail", "edits")]
+    return [len(glob.glob(f"{folder}/*.edit")) for folder in folders]
 
 
 def show(table, top):
     crates = sorted({crate for crate, _ in table}, key=lambda it: -sum(table[it, kind] for kind in KINDS))
-    print("| crate | proof | tests | edits | number of edits | together |\n|---|---|---|---|---|---|")
+    print("| crate | proof | tests | edits | together | edits in the gate, by hand |\n|---|---|---|---|---|---|")
     for crate in crates:
         minutes = [table[crate, kind] / 60 for kind in KINDS]
-        cells = [f"{it:.1f}" for it in minutes]
-        print(f"| `{crate}` | {' | '.join(cells)} | {edits_of(top, crate)} | {sum(minutes):.1f} |")
+        cells = " | ".join(f"{it:.1f}" for it in [*minutes, sum(minutes)])
+        print(f"| `{crate}` | {cells} | {', '.join(map(str, edits_of(top, crate)))} |")
     sums = [sum(table[it, kind] for it in crates) / 60 for kind in KINDS]
-    count = sum(edits_of(top, it) for it in crates)
-    print(f"| all of these | {' | '.join(f'{it:.1f}' for it in sums)} | {count} | {sum(sums):.1f} |")
+    cells = " | ".join(f"{it:.1f}" for it in [*sums, sum(sums)])
+    counts = map(sum, zip(*(edits_of(top, it) for it in crates)))
+    print(f"| all of these | {cells} | {', '.join(map(str, counts))} |")
 
 
 def edges(top):
@@ -110,16 +113,25 @@ def edges(top):
 
 
 def longest_chain(table, top):
-    """The crates of which each waits for the one before it, and whose proofs take longest together."""
+    """The crates of which each waits for the proof of the one before it, and what they take together. Beside the proof
+    of the last one stand its tests, and behind both its edits."""
     below, chains = edges(top), {}
+
+    def before(crate):
+        return max([chain(it) for it in below[crate] if it in below], default=(0.0, []))
 
     def chain(crate):
         if crate not in chains:
-            spent, under = max([chain(it) for it in below[crate] if it in below], default=(0.0, []))
+            spent, under = before(crate)
             chains[crate] = spent + table[crate, "proof"], [*under, crate]
         return chains[crate]
 
-    return max(map(chain, below))
+    def whole(crate):
+        spent, under = before(crate)
+        proof, tests, edits = (table[crate, kind] for kind in KINDS)
+        return spent + max(proof, tests) + edits, [*under, crate]
+
+    return max(map(whole, below))
 
 
 def add(file, table):
@@ -148,7 +160,7 @@ def main():
     table = add(words.add, table) if words.add else table
     show(table, top)
     minutes, chain = longest_chain(table, top)
-    print(f"\nThe longest chain of proofs: {', '.join(chain)}; {minutes / 60:.0f} minutes.")
+    print(f"\nThe longest chain: {', '.join(chain)}; {minutes / 60:.0f} processor minutes.")
     spent = resource.getrusage(resource.RUSAGE_CHILDREN)
     print(f"\nThis run: {(time.time() - begin) / 60:.0f} minutes on {os.cpu_count()} processors, "
           f"{(spent.ru_utime + spent.ru_stime) / 60:.0f} processor minutes of all processes.")

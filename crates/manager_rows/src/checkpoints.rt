@@ -9,6 +9,7 @@ use crate::rows::FUNDS_DEFERRABLE;
 use crate::strangers::{is_stranger, refused, unrolled};
 use definitions::{Definitions, NewAssertion, new_assertions};
 use parse::parse_schema;
+use report::write_refusal;
 use session::{History, Manager, Named, Receipt};
 use std::alloc::Global;
 use std::marker::Brand;
@@ -74,13 +75,13 @@ fn goes_on<N: Named, R: Wait + Abort>(
     let before = begins(rt, alloc, &mut manager, &mut sessions)?;
     let funds = under_funds(rt, alloc, &mut manager, &mut sessions)?;
     runs(rt, alloc, &manager, &mut sessions, UNDER_FUNDS_BY_ONE)?;
-    let last = manager.close()?;
+    let last = manager.close();
     has(rt, &before, sessions.receipts.as_slice(), 0, 3);
     has(rt, &funds, sessions.receipts.as_slice(), 3, 4);
     has(rt, &last, sessions.receipts.as_slice(), 4, 5);
     let anew = opens_anew::<N, R>(rt, alloc, &last, second)?;
     runs(rt, alloc, &anew, &mut sessions, OPENED_ANEW)?;
-    assert_eq!(rt; sessions.report.as_bytes(), REPORT.as_bytes());
+    assert_eq!(rt; sessions.report.as_slice(), REPORT.as_bytes());
     Ok(())
 }
 
@@ -96,7 +97,7 @@ fn begins<N: Named, R: Wait + Abort>(
     runs(rt, alloc, manager, sessions, BEFORE)?;
     match checkpoint(rt, alloc, manager, &mut sessions.seats, &[], &created)? {
         Ok(_history) => assert!(rt; false, "a rule that is broken"),
-        Err(refusal) => sessions.report.add_refusal("CHECKPOINT", &refusal)?,
+        Err(refusal) => write_refusal("CHECKPOINT", &refusal, &mut sessions.report)?,
     }
     equal(rt, manager.verdict(rt, &funds), None);
     runs(rt, alloc, manager, sessions, MENDED)?;

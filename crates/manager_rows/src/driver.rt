@@ -4,7 +4,7 @@ ghost use Rattle.std.specs.Prelude.{◌<◌, length, IfOk, IfSome};
 
 use crate::again::{for_ever, is_same, shown};
 use alone::Answer;
-use report::Report;
+use report::{write_left_open, write_reply};
 use session::{CommitFault, Manager, Named, Receipt, Session, Txn};
 use std::alloc::Global;
 use std::fmt::Debug;
@@ -40,7 +40,7 @@ pub fn equal<T: Copy + PartialEq + Debug>(rt: &impl Abort, found: T, wanted: T) 
 #[derive(Drop)]
 pub struct Sessions<N: Named> {
     pub seats: Vec<Seat<N>>,
-    pub report: Report,
+    pub report: Vec<u8>,
     pub receipts: Vec<Receipt<N>>,
 }
 
@@ -48,7 +48,7 @@ impl<N: Named> Sessions<N> {
     pub fn new(alloc: Global) -> Sessions<N> {
         Sessions {
             seats: Vec::new(alloc),
-            report: Report::new(alloc),
+            report: Vec::new(alloc),
             receipts: Vec::new(alloc),
         }
     }
@@ -80,7 +80,7 @@ impl<N: Named> Sessions<N> {
             }
             Err(refusal) => Answer::Refused(refusal),
         };
-        let noted = self.report.add_answer(line, &answer);
+        let noted = write_reply(line, &answer, &mut self.report);
         drop(answer);
         noted?;
         Ok(())
@@ -90,7 +90,7 @@ impl<N: Named> Sessions<N> {
     pub fn leave_open(&mut self) -> Result<(), Fail> {
         for seat in self.seats.as_slice() {
             if seat.txn.is_some() {
-                self.report.add_left_open(seat.session.name())?;
+                write_left_open(seat.session.name(), &mut self.report)?;
             }
         }
         Ok(())

@@ -12,7 +12,7 @@ use commit::{Core, Engine, admit};
 use delta::View;
 use histories::{COVER, KIM, SEVEN, TABLES};
 use parse::parse_schema;
-use report::Report;
+use report::write_reply;
 use session::{CommitFault, Manager, Named};
 use std::alloc::Global;
 use std::marker::Brand;
@@ -117,7 +117,7 @@ fn answers_row<R: Abort>(rt: &R, alloc: Global, row: &Row) -> Result<(), Fail> {
     let lines = lines_of(alloc, row.script)?;
     let mut engine = engine(alloc, row.more, lines.as_slice())?;
     let report = answers(alloc, &mut engine, lines.as_slice())?;
-    assert_eq!(rt; report.as_bytes(), row.answers.as_bytes());
+    assert_eq!(rt; report.as_slice(), row.answers.as_bytes());
     ended(rt, engine.core(), row);
     Ok(())
 }
@@ -146,7 +146,7 @@ fn rolls_back<N: Named, R: Wait + Abort>(rt: &R, alloc: Global, on: Opening) -> 
     let mut newest = page(alloc)?;
     show_newest(rt, &manager, &mut seat.session, &mut newest)?;
     drop(seat);
-    let history = manager.close()?;
+    let history = manager.close();
     equal(rt, history.core().records().len(), commits);
     equal(rt, history.core().refused().len(), 0);
     equal(rt, history.core().locks(), 0);
@@ -191,8 +191,8 @@ fn rolls_back_fault<N: Named, R: Wait>(
 }
 
 /// The report of what the lines of a script are answered.
-fn answers(alloc: Global, engine: &mut Engine, lines: &[ScriptLine]) -> Result<Report, Fail> {
-    let mut report = Report::new(alloc);
+fn answers(alloc: Global, engine: &mut Engine, lines: &[ScriptLine]) -> Result<Vec<u8>, Fail> {
+    let mut report = Vec::new(alloc);
     for line in lines {
         add_answer(alloc, engine, line, &mut report)?;
     }
@@ -203,10 +203,10 @@ fn add_answer(
     alloc: Global,
     engine: &mut Engine,
     line: &ScriptLine,
-    report: &mut Report,
+    report: &mut Vec<u8>,
 ) -> Result<(), Fail> {
     let answer = answer_again(alloc, engine, line)?;
-    let added = report.add_answer(line, &answer);
+    let added = write_reply(line, &answer, report);
     drop(answer);
     added?;
     Ok(())

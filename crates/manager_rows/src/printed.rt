@@ -8,7 +8,7 @@ use commit::Core;
 use definitions::Definitions;
 use histories::TABLES;
 use parse::{parse_schema, parse_script};
-use report::Report;
+use replay::write_closing_part;
 use session::{History, Limits, Manager, Named, Receipt, Shelf};
 use sqlite_items::Items;
 use std::alloc::Global;
@@ -155,10 +155,10 @@ pub fn serves<N: Named, R: Wait + Abort>(
     let mut sessions = run_script(rt, alloc, &manager, case.script)?;
     sessions.leave_open()?;
     let verdicts = verdicts(rt, alloc, &manager)?;
-    let history = manager.close()?;
+    let history = manager.close();
     finds(rt, &history, sessions.receipts.as_slice(), case.receipts)?;
     stands(rt, alloc, history.core(), verdicts.as_slice())?;
-    ends(rt, alloc, history.core(), &mut sessions.report, case)?;
+    ends(rt, history.core(), &mut sessions.report, case)?;
     let Sessions {
         seats: _,
         report: _,
@@ -181,15 +181,9 @@ pub fn run_script<N: Named, R: Wait>(
 }
 
 /// The case's bytes and locks are what is left.
-fn ends<R: Abort>(
-    rt: &R,
-    alloc: Global,
-    core: &Core,
-    report: &mut Report,
-    case: &Case,
-) -> Result<(), Fail> {
-    close(alloc, core, report)?;
-    assert_eq!(rt; report.as_bytes(), case.want.as_bytes());
+fn ends<R: Abort>(rt: &R, core: &Core, report: &mut Vec<u8>, case: &Case) -> Result<(), Fail> {
+    write_closing_part(core, report)?;
+    assert_eq!(rt; report.as_slice(), case.want.as_bytes());
     assert_eq!(rt; core.locks(), case.locks);
     Ok(())
 }
@@ -235,22 +229,5 @@ fn finds<N: Named, R: Abort>(
         equal(rt, receipt.number(), *number);
         equal(rt, record.number, *number);
     }
-    Ok(())
-}
-
-/// Adds the closing part.
-fn close(alloc: Global, core: &Core, report: &mut Report) -> Result<(), Fail> {
-    let newest = core.newest();
-    let mut truths = Vec::new(alloc);
-    for place in 0..newest.assertions().len() {
-        truths.push(newest.verdict(place))?;
-    }
-    report.add_closing_part(
-        core.records(),
-        core.serial_order(),
-        core.refused(),
-        newest.assertions(),
-        truths.as_slice(),
-    )?;
     Ok(())
 }

@@ -35,7 +35,7 @@ fn violates<N: Named, R: Wait + Abort>(rt: &R, alloc: Global, on: Opening) -> Re
     let lines = lines_of(alloc, "A: INSERT INTO SHIFTS VALUES (7);")?;
     commits_in_vain(rt, &manager, lines.as_slice(), &cover)?;
     assert_eq!(rt; manager.verdict(rt, &cover), Some(Truth::True));
-    let history = manager.close()?;
+    let history = manager.close();
     assert_eq!(rt; history.core().refused().len(), 1);
     Ok(())
 }

@@ -42,7 +42,7 @@ fn answers<N: Named, R: Wait + Abort>(rt: &R, alloc: Global, on: Opening) -> Res
     assert!(rt; end_memory(alloc));
     reopens(rt, closed);
     end_all(rt, &manager, sessions.seats.as_mut_slice(), &cover);
-    let history = manager.close()?;
+    let history = manager.close();
     for receipt in sessions.receipts.as_slice() {
         leaves(rt, &history, receipt, &cover);
     }

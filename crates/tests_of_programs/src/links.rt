@@ -1,6 +1,6 @@
 //! Subqueries that are linked to their row by another column than its key, by the bytes that are printed.
 
-use crate::replays::{prints, prints_over_tables};
+use crate::replays::prints_over_tables;
 use std::test::Fail;
 
 /// Each duty is in a shift that there is.
@@ -32,26 +32,5 @@ fn known_shift_write_skew(rt: HostRuntime) -> Result<(), Fail> {
          B: REFUSED 13 40001 READER 1 PIVOT THIS WRITER 1\n\
          COMMITS 1\n1 A SNAPSHOT 0 ROWS 1\nSERIAL 1\nREFUSED 1\n\
          B 13 40001 READER 1 PIVOT THIS WRITER 1\nASSERTIONS 1\nKNOWN TRUE\n",
-    )
-}
-
-/// Neither column is a key: of the two of one name one may go.
-#[test]
-fn known_doctor(rt: HostRuntime) -> Result<(), Fail> {
-    prints(
-        &rt,
-        "CREATE TABLE STAFF (ID INTEGER PRIMARY KEY, NAME VARCHAR(10));
-         CREATE TABLE ROTA (ID INTEGER PRIMARY KEY, DOCTOR VARCHAR(10));
-         CREATE ASSERTION KNOWN CHECK (NOT EXISTS (SELECT * FROM ROTA R WHERE R.DOCTOR IS NOT NULL AND NOT EXISTS
-         (SELECT * FROM STAFF S WHERE S.NAME = R.DOCTOR)));
-         INSERT INTO STAFF VALUES (1, 'KIM'); INSERT INTO STAFF VALUES (2, 'KIM');",
-        "A: BEGIN; A: INSERT INTO ROTA VALUES (1, 'LEE'); A: INSERT INTO ROTA VALUES (1, NULL);
-         A: DELETE FROM STAFF WHERE ID = 2; A: COMMIT; B: BEGIN; C: BEGIN; B: DELETE FROM STAFF WHERE NAME = 'KIM';
-         C: INSERT INTO ROTA VALUES (2, 'KIM'); B: COMMIT; C: COMMIT;",
-        "A: BEGIN 0\nA: REFUSED 10 23000 KNOWN 1\nA: INSERT 1\nA: DELETE 1\nA: COMMIT 1\n\
-         B: BEGIN 1\nC: BEGIN 1\nB: DELETE 1\nC: INSERT 1\nB: COMMIT 2\n\
-         C: REFUSED 13 40001 READER 2 PIVOT THIS WRITER 2\n\
-         COMMITS 2\n1 A SNAPSHOT 0 ROWS 2\n2 B SNAPSHOT 1 ROWS 1\nSERIAL 1 2\nREFUSED 1\n\
-         C 13 40001 READER 2 PIVOT THIS WRITER 2\nASSERTIONS 1\nKNOWN TRUE\n",
     )
 }

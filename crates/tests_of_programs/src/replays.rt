@@ -119,19 +119,6 @@ fn false_at_creation(rt: HostRuntime) -> Result<(), Fail> {
 }
 
 #[test]
-fn a_shift_is_covered_before_it_is_there(rt: HostRuntime) -> Result<(), Fail> {
-    prints_over_tables(
-        &rt,
-        COVER,
-        "A: BEGIN; A: INSERT INTO SHIFTS VALUES (7); A: INSERT INTO DUTY VALUES (1, 7, 1); A: INSERT INTO SHIFTS VALUES (7);
-         A: DELETE FROM DUTY WHERE ONCALL = 1; A: DELETE FROM SHIFTS; A: DELETE FROM DUTY WHERE ONCALL = 1; A: COMMIT;",
-        "A: BEGIN 0\nA: REFUSED 10 23000 COVER 7\nA: INSERT 1\nA: INSERT 1\nA: REFUSED 10 23000 COVER 7\n\
-         A: DELETE 1\nA: DELETE 1\nA: COMMIT 1\n\
-         COMMITS 1\n1 A SNAPSHOT 0 ROWS 0\nSERIAL 1\nREFUSED 0\nASSERTIONS 1\nCOVER TRUE\n",
-    )
-}
-
-#[test]
 fn null_group(rt: HostRuntime) -> Result<(), Fail> {
     prints_over_tables(
         &rt,
@@ -243,84 +230,6 @@ fn epoch_full(rt: HostRuntime) -> Result<(), Fail> {
         "A: BEGIN 0\nA: INSERT 1\nA: COMMIT 1\nA: BEGIN 1\nA: SELECT 1\n  1\nA: REFUSED 17 - EPOCH FULL\n\
          COMMITS 1\n1 A SNAPSHOT 0 ROWS 1\nSERIAL 1\nREFUSED 1\nA 17 - EPOCH FULL\nASSERTIONS 0\n";
     assert_eq!(rt; got.as_slice(), want.as_bytes());
-    Ok(())
-}
-
-/// A read-only COMMIT takes a number like any other.
-#[test]
-fn epoch_full_of_readers(rt: HostRuntime) -> Result<(), Fail> {
-    let got = written(
-        rt.alloc(),
-        TABLES,
-        "A: BEGIN READ ONLY; A: SELECT * FROM SHIFTS; A: COMMIT; A: BEGIN READ ONLY; A: COMMIT; A: BEGIN; A: COMMIT;",
-        1,
-    )?;
-    let want =
-        "A: BEGIN 0\nA: SELECT 0\nA: COMMIT 1\nA: BEGIN 1\nA: REFUSED 17 - EPOCH FULL\nA: BEGIN 1\n\
-         A: REFUSED 17 - EPOCH FULL\nCOMMITS 1\n1 A SNAPSHOT 0 ROWS 0\nSERIAL 1\nREFUSED 2\n\
-         A 17 - EPOCH FULL\nA 17 - EPOCH FULL\nASSERTIONS 0\n";
-    assert_eq!(rt; got.as_slice(), want.as_bytes());
-    Ok(())
-}
-
-#[test]
-fn groups_of_null_and_of_nothing(rt: HostRuntime) -> Result<(), Fail> {
-    // NULLs are one group, and NULL = 7 is not true.
-    prints(
-        &rt,
-        AT_MOST_TWO,
-        "A: BEGIN; A: INSERT INTO DUTY VALUES (3, NULL); A: INSERT INTO DUTY VALUES (4, NULL); A: INSERT INTO DUTY (ID) VALUES (5);
-         A: DELETE FROM DUTY WHERE SHIFT = 7; A: DELETE FROM DUTY; A: ROLLBACK WORK; A: BEGIN;",
-        "A: BEGIN 0\nA: INSERT 1\nA: INSERT 1\nA: REFUSED 10 23000 ATMOST2 NULL\nA: DELETE 2\nA: DELETE 2\n\
-         A: ROLLBACK\nA: BEGIN 0\nA: ROLLBACK AT END\n\
-         COMMITS 0\nSERIAL\nREFUSED 0\nASSERTIONS 1\nATMOST2 TRUE\n",
-    )?;
-    // A group that was emptied is none: no group is left of which COUNT(*) < 1 could be true.
-    prints(
-        &rt,
-        "CREATE TABLE T (K INT PRIMARY KEY, G INT); CREATE ASSERTION SOME1 CHECK (NOT EXISTS (SELECT G FROM T GROUP BY G HAVING COUNT(*) < 1));
-         INSERT INTO T VALUES (1, 5);",
-        "A: BEGIN; A: DELETE FROM T WHERE K = 1; A: VERDICT SOME1; A: COMMIT WORK; A: BEGIN; A: COMMIT;",
-        "A: BEGIN 0\nA: DELETE 1\nA: VERDICT SOME1 TRUE\nA: COMMIT 1\nA: BEGIN 1\nA: COMMIT 2\n\
-         COMMITS 2\n1 A SNAPSHOT 0 ROWS 1\n2 A SNAPSHOT 1 ROWS 0\nSERIAL 1 2\nREFUSED 0\nASSERTIONS 1\n\
-         SOME1 TRUE\n",
-    )
-}
-
-#[test]
-fn statements_are_refused_in_order(rt: HostRuntime) -> Result<(), Fail> {
-    prints(
-        &rt,
-        AT_MOST_TWO,
-        "A: COMMIT; A: ROLLBACK; A: VERDICT ATMOST2; A: BEGIN; A: BEGIN; A: INSERT INTO NONE VALUES (1); A: INSERT INTO DUTY VALUES (1);
-         A: INSERT INTO DUTY VALUES (NULL, 7); A: DELETE FROM NONE; A: DELETE FROM DUTY WHERE NONE = 1; A: VERDICT NONE;",
-        "A: REFUSED 14 - NO TRANSACTION\nA: REFUSED 14 - NO TRANSACTION\nA: REFUSED 14 - NO TRANSACTION\n\
-         A: BEGIN 0\nA: REFUSED 15 - TRANSACTION OPEN\nA: REFUSED 3 - NONE\nA: REFUSED 5 - TYPE\n\
-         A: REFUSED 6 23000 ID\nA: REFUSED 3 - NONE\nA: REFUSED 3 - NONE\nA: REFUSED 3 - NONE\n\
-         A: ROLLBACK AT END\n\
-         COMMITS 0\nSERIAL\nREFUSED 0\nASSERTIONS 1\nATMOST2 TRUE\n",
-    )
-}
-
-#[test]
-fn faults_come_in_order(rt: HostRuntime) -> Result<(), Fail> {
-    // The script is read before the definitions are taken in, and they are taken in before its sessions are counted.
-    let unknown =
-        "CREATE ASSERTION R CHECK (NOT EXISTS (SELECT G FROM U GROUP BY G HAVING COUNT(*) = 9));";
-    for (defs, script, want) in [
-        ("", "", "COMMITS 0\nSERIAL\nREFUSED 0\nASSERTIONS 0\n"),
-        (";", "A: BEGIN", "DEFS: REFUSED 2 - SYNTAX 0\n"),
-        (unknown, "A: BEGIN", "SCRIPT: REFUSED 2 - SYNTAX 8\n"),
-        (unknown, "A: BEGIN; B: BEGIN;", "DEFS: REFUSED 3 - U\n"),
-        ("INSERT INTO U VALUES (1, 2);", "", "DEFS: REFUSED 3 - U\n"),
-        (
-            "CREATE TABLE T (K INT, K INT);",
-            "",
-            "DEFS: REFUSED 4 - K\n",
-        ),
-    ] {
-        prints(&rt, defs, script, want)?;
-    }
     Ok(())
 }
 

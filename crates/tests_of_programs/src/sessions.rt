@@ -110,26 +110,6 @@ fn read_only_insert(rt: HostRuntime) -> Result<(), Fail> {
     prints_history(&rt, &READ_ONLY_INSERT)
 }
 
-/// What would write is refused before its names are looked up; all else goes on as ever, and a transaction that is
-/// open refuses both ways to begin.
-#[test]
-fn read_only_statements(rt: HostRuntime) -> Result<(), Fail> {
-    let more = format!(in rt.alloc(); "{COVER}{SEVEN}{KIM}")?;
-    prints_over_tables(
-        &rt,
-        more.as_str(),
-        "A: BEGIN READ ONLY; A: BEGIN READ ONLY; A: BEGIN; A: INSERT INTO NOWHERE VALUES (1);
-         A: UPDATE ACCT SET ID = 'KIM'; A: DELETE FROM ACCT WHERE MISSING = 1; A: SELECT MISSING FROM ACCT;
-         A: SELECT BAL FROM ACCT WHERE ID = 2; A: SET CONSTRAINTS ALL DEFERRED; A: VERDICT COVER; A: ROLLBACK;
-         A: BEGIN; A: BEGIN READ ONLY; A: DELETE FROM ACCT WHERE ID = 2; A: COMMIT;",
-        "A: BEGIN 0\nA: REFUSED 15 - TRANSACTION OPEN\nA: REFUSED 15 - TRANSACTION OPEN\n\
-         A: REFUSED 23 - READ ONLY\nA: REFUSED 23 - READ ONLY\nA: REFUSED 23 - READ ONLY\n\
-         A: REFUSED 3 - MISSING\nA: SELECT 1\n  50\nA: SET CONSTRAINTS\nA: VERDICT COVER TRUE\nA: ROLLBACK\n\
-         A: BEGIN 0\nA: REFUSED 15 - TRANSACTION OPEN\nA: DELETE 1\nA: COMMIT 1\n\
-         COMMITS 1\n1 A SNAPSHOT 0 ROWS 1\nSERIAL 1\nREFUSED 0\nASSERTIONS 1\nCOVER TRUE\n",
-    )
-}
-
 #[test]
 fn same_key_inserted_twice(rt: HostRuntime) -> Result<(), Fail> {
     prints_history(&rt, &SAME_KEY_INSERTED_TWICE)
@@ -149,57 +129,5 @@ fn null_group_write_skew(rt: HostRuntime) -> Result<(), Fail> {
          B: REFUSED 13 40001 READER 1 PIVOT THIS WRITER 1\n\
          COMMITS 1\n1 A SNAPSHOT 0 ROWS 1\nSERIAL 1\nREFUSED 1\nB 13 40001 READER 1 PIVOT THIS WRITER 1\n\
          ASSERTIONS 1\nFUNDS TRUE\n",
-    )
-}
-
-/// The sessions stand by their first events.
-#[test]
-fn transactions_are_left_open(rt: HostRuntime) -> Result<(), Fail> {
-    prints_over_tables(
-        &rt,
-        COVER,
-        "B: BEGIN; A: BEGIN; C: BEGIN; A: ROLLBACK; B: VERDICT COVER;",
-        "B: BEGIN 0\nA: BEGIN 0\nC: BEGIN 0\nA: ROLLBACK\nB: VERDICT COVER TRUE\nB: ROLLBACK AT END\n\
-         C: ROLLBACK AT END\n\
-         COMMITS 0\nSERIAL\nREFUSED 0\nASSERTIONS 1\nCOVER TRUE\n",
-    )
-}
-
-/// A BEGIN in each of so many sessions, and what it prints.
-fn begins(alloc: Global, sessions: u32) -> Result<(String, String), Fail> {
-    let script = of_each(alloc, sessions, ": BEGIN;")?;
-    let begun = of_each(alloc, sessions, ": BEGIN 0\n")?;
-    let left = of_each(alloc, sessions, ": ROLLBACK AT END\n")?;
-    let want = format!(in alloc; "{begun}{left}COMMITS 0\nSERIAL\nREFUSED 0\nASSERTIONS 0\n")?;
-    Ok((script, want))
-}
-
-/// This, behind the name of each of so many sessions.
-fn of_each(alloc: Global, sessions: u32, said: &str) -> Result<String, Fail> {
-    let mut all = String::new(alloc);
-    for session in 0..sessions {
-        write!(all, "S{session}{said}")?;
-    }
-    Ok(all)
-}
-
-#[test]
-fn a_script_has_at_most_256_sessions(rt: HostRuntime) -> Result<(), Fail> {
-    let (script, want) = begins(rt.alloc(), 256)?;
-    prints_over_tables(&rt, "", script.as_str(), want.as_str())?;
-    let (script, _) = begins(rt.alloc(), 257)?;
-    prints_over_tables(
-        &rt,
-        "",
-        script.as_str(),
-        "SCRIPT: REFUSED 24 - TOO MANY SESSIONS\n",
-    )?;
-    // Definitions that are false come first.
-    let more = format!(in rt.alloc(); "{COVER}INSERT INTO SHIFTS VALUES (7);")?;
-    prints_over_tables(
-        &rt,
-        more.as_str(),
-        script.as_str(),
-        "DEFS: REFUSED 21 - COVER 7\n",
     )
 }

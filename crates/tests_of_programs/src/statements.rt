@@ -103,15 +103,3 @@ fn unknown_keeps_no_row(rt: HostRuntime) -> Result<(), Fail> {
          COMMITS 0\nSERIAL\nREFUSED 0\nASSERTIONS 0\n",
     )
 }
-
-#[test]
-fn update_evaluates_on_the_old_row(rt: HostRuntime) -> Result<(), Fail> {
-    prints_over_tables(
-        &rt,
-        "INSERT INTO DUTY VALUES (1, 7, 2); INSERT INTO DUTY VALUES (2, 8, NULL);",
-        "A: BEGIN; A: UPDATE DUTY SET SHIFT = ONCALL, ONCALL = SHIFT; A: SELECT SHIFT, ONCALL FROM DUTY; A: UPDATE DUTY SET ID = 3;
-         A: UPDATE DUTY SET SHIFT = 1 WHERE ID = 3; A: COMMIT;",
-        "A: BEGIN 0\nA: UPDATE 2\nA: SELECT 2\n  2, 7\n  NULL, 8\nA: REFUSED 8 - ID\nA: UPDATE 0\nA: COMMIT 1\n\
-         COMMITS 1\n1 A SNAPSHOT 0 ROWS 2\nSERIAL 1\nREFUSED 0\nASSERTIONS 0\n",
-    )
-}

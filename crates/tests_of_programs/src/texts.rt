@@ -2,7 +2,7 @@
 
 use histories::{History, TABLES};
 use replay::ProgramFault;
-use report::Report;
+use report::write_refusal;
 use std::alloc::Global;
 use std::test::Fail;
 
@@ -18,13 +18,13 @@ pub fn defs_of(alloc: Global, history: &History) -> Result<String, Fail> {
 
 /// The line that says why there is no report.
 pub fn line_of(alloc: Global, fault: ProgramFault) -> Result<Vec<u8>, Fail> {
-    let mut line = Report::new(alloc);
+    let mut line = Vec::new(alloc);
     match fault {
-        ProgramFault::Defs(refusal) => line.add_refusal("DEFS", &refusal)?,
-        ProgramFault::Script(refusal) => line.add_refusal("SCRIPT", &refusal)?,
+        ProgramFault::Defs(refusal) => write_refusal("DEFS", &refusal, &mut line)?,
+        ProgramFault::Script(refusal) => write_refusal("SCRIPT", &refusal, &mut line)?,
         ProgramFault::Stopped => return Err(Fail::from("memory ended the run")),
         ProgramFault::Output => return Err(Fail::from("the writer took no bytes")),
         ProgramFault::NoThread => return Err(Fail::from("a session was not run")),
     }
-    Ok(Vec::from_slice(alloc, line.as_bytes())?)
+    Ok(line)
 }

@@ -181,25 +181,6 @@ fn held_session(rt: HostRuntime) -> Result<(), Fail> {
     Ok(())
 }
 
-/// What is refused by the session's own state, and takes no lock.
-#[test]
-fn outside_and_inside(rt: HostRuntime) -> Result<(), Fail> {
-    let got = written(
-        &rt,
-        TABLES,
-        "A: COMMIT; A: VERDICT COVER; A: BEGIN; A: BEGIN; A: VERDICT COVER; A: ROLLBACK; A: ROLLBACK;",
-        &Free,
-    )?;
-    assert_eq!(&rt;
-        got.as_slice(),
-        "A: REFUSED 14 - NO TRANSACTION\nA: REFUSED 14 - NO TRANSACTION\nA: BEGIN 0\n\
-         A: REFUSED 15 - TRANSACTION OPEN\nA: REFUSED 3 - COVER\nA: ROLLBACK\nA: REFUSED 14 - NO TRANSACTION\n\
-         COMMITS 0\nSERIAL\nREFUSED 0\nASSERTIONS 0\n"
-            .as_bytes()
-    );
-    Ok(())
-}
-
 /// What comes of the ledger's row on threads, for a writer that fails at one of its calls.
 fn written_to<R>(rt: &R, fails_at: usize) -> Result<(Result<(), ProgramFault>, usize), Fail>
 where
@@ -291,14 +272,8 @@ fn prints_unrun<N: Named + Send + Sync, R: Threads + Wait + Abort + Sync>(
     let scripts = vec![in alloc; script_of(alloc, "A")?]?;
     let answered = run_sessions(rt, alloc, &manager, scripts.as_slice(), &Free)?;
     let mut out = Vec::new(alloc);
-    let history = manager.close()?;
-    let printed = print_report(
-        alloc,
-        &history,
-        scripts.as_slice(),
-        answered.as_slice(),
-        &mut out,
-    );
+    let history = manager.close();
+    let printed = print_report(&history, scripts.as_slice(), answered.as_slice(), &mut out);
     assert!(rt; matches!(printed, Err(ProgramFault::NoThread)));
     assert_eq!(rt;
         out.as_slice(),

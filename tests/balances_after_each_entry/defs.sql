@@ -1,0 +1,7 @@
+-- The days of an account's entries go up with their keys, and no entry takes its balance below zero: a MAX of the
+-- entries before each, and a SUM of those up to it.
+CREATE TABLE ENTRY (ID INTEGER PRIMARY KEY, ACCT INTEGER, DAY INTEGER, AMOUNT INTEGER);
+CREATE ASSERTION INORDER CHECK (NOT EXISTS (SELECT * FROM ENTRY E WHERE
+    (SELECT MAX(P.DAY) FROM ENTRY P WHERE P.ACCT = E.ACCT AND P.ID < E.ID) > E.DAY));
+CREATE ASSERTION NEVERBELOW CHECK (NOT EXISTS (SELECT * FROM ENTRY E WHERE
+    (SELECT SUM(P.AMOUNT) FROM ENTRY P WHERE P.ACCT = E.ACCT AND P.ID <= E.ID) < 0));

@@ -1,0 +1,2 @@
+-- One table.
+CREATE TABEL T (ID INTEGER PRIMARY KEY);

@@ -1,0 +1,1 @@
+A: BEGIN; B: BEGIN;

@@ -1,0 +1,2 @@
+A: BEGIN;
+A: VERDICT A;

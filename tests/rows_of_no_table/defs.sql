@@ -1,0 +1,1 @@
+INSERT INTO U VALUES (1, 2);
