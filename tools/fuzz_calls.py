@@ -5,11 +5,12 @@
 
 LIBRARY is a libskewguard.so, PROGRAM the program skewguard. Each run has some definitions and up to five sessions, and
 is 500 calls: events as texts, by calls of their own, and prepared with values; sessions that are closed and opened
-again; and calls that no library should be given, as sessions that are closed, statements that were never prepared,
-requests of random bytes and operations that there are not. What each event was answered is asked for as the line of a
-report, and the reply's bytes have to say the same; a call that is misused may change nothing. In the end the events are
-replayed as a script: every line, and the closing part, have to be the same bytes. The last line says how many calls
-were made, and how many runs differ.
+again, and three hundred of other names one after the other; checkpoints that drop and create rules; and calls that no
+library should be given, as sessions that are closed, statements that were never prepared, requests of random bytes and
+operations that there are not. What each event was answered is asked for as the line of a report, and the reply's bytes
+have to say the same; a call that is misused, or refused for its rules, may change nothing. In the end the events of
+each epoch are replayed as a script, over the rules of that epoch and the rows that it began on: every line, and the
+closing part, have to be the same bytes. The last line says how many calls were made, and how many runs differ.
 """
 import argparse
 import collections
@@ -20,6 +21,7 @@ import struct
 import subprocess
 import sys
 import tempfile
+import typing
 
 (AGAIN, LINE, OPEN_SESSION, CLOSE_SESSION, PREPARE, FORGET, RUN, EXECUTE, BEGIN, BEGIN_READ_ONLY, COMMIT, ROLLBACK,
  REPORT, CHECKPOINT) = range(14)
@@ -30,23 +32,43 @@ MODES_SET, VERDICT, TEXT, REFUSAL = 12, 13, 14, 15
 ENDING = "10 40002", "12 40001", "13 40001", "17 -"
 CALLS_IN_A_RUN = 500
 
-CLINIC = """
-CREATE TABLE SHIFTS (ID INTEGER PRIMARY KEY);
-CREATE TABLE DUTY (ID INTEGER PRIMARY KEY, SHIFT INTEGER, DOCTOR VARCHAR(8), ONCALL INTEGER);
-CREATE ASSERTION COVERED CHECK (NOT EXISTS (SELECT * FROM SHIFTS S WHERE NOT EXISTS (
-    SELECT * FROM DUTY D WHERE D.SHIFT = S.ID AND D.ONCALL = 1)));
-CREATE ASSERTION FEW CHECK ((SELECT COUNT(*) FROM DUTY) < 9) INITIALLY DEFERRED;
+
+
+class Schema(typing.NamedTuple):
+    """Tables with their names, assertions by their names in their order, and rows."""
+    tables: str
+    names: tuple
+    rules: dict
+    rows: str
+
+    def text(self):
+        return "\n".join([self.tables, *self.rules.values(), self.rows]) + "\n"
+
+
+def rule(name, condition, attributes=""):
+    return f"CREATE ASSERTION {name} CHECK ({condition}) {attributes};"
+
+
+DUTY = "CREATE TABLE DUTY (ID INTEGER PRIMARY KEY, SHIFT INTEGER, DOCTOR VARCHAR(8), ONCALL INTEGER);"
+RULES = {
+    "COVERED": rule("COVERED", """NOT EXISTS (SELECT * FROM SHIFTS S WHERE NOT EXISTS (
+        SELECT * FROM DUTY D WHERE D.SHIFT = S.ID AND D.ONCALL = 1))"""),
+    "FEW": rule("FEW", "(SELECT COUNT(*) FROM DUTY) < 9", "INITIALLY DEFERRED"),
+    "SOME": rule("SOME", "EXISTS (SELECT * FROM DUTY)", "DEFERRABLE"),
+    "TWICE": rule("TWICE", "NOT EXISTS (SELECT DOCTOR FROM DUTY GROUP BY DOCTOR HAVING COUNT(*) > 3)"),
+    "BELOW": rule("BELOW", "NOT EXISTS (SELECT * FROM DUTY WHERE ONCALL > 6)"),
+    "NONE": rule("NONE", "NOT EXISTS (SELECT * FROM DUTY)"),
+}
+SUMS = rule("COVERED", "NOT EXISTS (SELECT SHIFT FROM DUTY GROUP BY SHIFT HAVING SUM(ONCALL) < 0)")
+CLINIC = Schema("CREATE TABLE SHIFTS (ID INTEGER PRIMARY KEY);\n" + DUTY, ("SHIFTS", "DUTY"),
+    {name: RULES[name] for name in ("COVERED", "FEW")}, """
 INSERT INTO DUTY VALUES (1, 1, 'KIM', 1); INSERT INTO DUTY VALUES (2, 1, 'O''HARA', 1);
-INSERT INTO DUTY VALUES (3, 2, NULL, 1); INSERT INTO SHIFTS VALUES (1); INSERT INTO SHIFTS VALUES (2);
-"""
-BANK = """
-CREATE TABLE DUTY (ID INTEGER PRIMARY KEY, SHIFT INTEGER NOT NULL, DOCTOR VARCHAR(8), ONCALL INTEGER);
-CREATE ASSERTION COVERED CHECK (NOT EXISTS (SELECT SHIFT FROM DUTY GROUP BY SHIFT HAVING SUM(ONCALL) < 0));
-CREATE ASSERTION TWICE CHECK (NOT EXISTS (SELECT DOCTOR FROM DUTY GROUP BY DOCTOR HAVING COUNT(*) > 3));
-INSERT INTO DUTY VALUES (1, 1, 'KIM', 5); INSERT INTO DUTY VALUES (2, 1, 'LEE', 0);
-"""
-PLAIN = "CREATE TABLE DUTY (ID INTEGER PRIMARY KEY, SHIFT INTEGER, DOCTOR VARCHAR(8), ONCALL INTEGER);"
-DEFINITIONS = CLINIC, CLINIC, BANK, PLAIN
+INSERT INTO DUTY VALUES (3, 2, NULL, 1); INSERT INTO SHIFTS VALUES (1); INSERT INTO SHIFTS VALUES (2);""")
+BANK = Schema(DUTY.replace("SHIFT INTEGER", "SHIFT INTEGER NOT NULL"), ("DUTY",),
+    {"COVERED": SUMS, "TWICE": RULES["TWICE"]},
+    "INSERT INTO DUTY VALUES (1, 1, 'KIM', 5); INSERT INTO DUTY VALUES (2, 1, 'LEE', 0);")
+PLAIN = Schema(DUTY, ("DUTY",), {}, "")
+SCHEMAS = CLINIC, CLINIC, BANK, PLAIN
 # Each with the types of its parameters: a number, a text, or a number where NULL may stand too.
 STATEMENTS = {
     "INSERT INTO DUTY VALUES (?, ?, ?, ?)": "nnto",
@@ -64,6 +86,7 @@ STATEMENTS = {
     "SET CONSTRAINTS COVERED IMMEDIATE": "",
     "INSERT INTO NOWHERE VALUES (?)": "n",
 }
+USERS = 300
 NO_NAMES = b"", b"A B", b"SELECT", b"\xff", b"1A", b"A" * 129
 EVENTS = {BEGIN: "BEGIN", BEGIN_READ_ONLY: "BEGIN READ ONLY", COMMIT: "COMMIT", ROLLBACK: "ROLLBACK"}
 
@@ -199,13 +222,14 @@ class Run:
 
     def __init__(self, shared, chance):
         self.chance = chance
-        self.definitions = chance.choice(DEFINITIONS)
+        self.schema = chance.choice(SCHEMAS)
         self.limit = chance.choice((1000000, 1000000, 12))
-        self.library = Library(shared, self.definitions, self.limit)
+        self.library = Library(shared, self.schema.text(), self.limit)
+        self.epochs = []
         self.sessions, self.closed, self.statements = {}, [0, 10**12], {}
         self.script, self.lines, self.order = [], [], []
         self.in_transaction = collections.defaultdict(bool)
-        self.calls = 0
+        self.calls = self.events = 0
 
     def call(self, operation, request=b""):
         self.calls += 1
@@ -261,6 +285,7 @@ class Run:
             self.order.append(name)
         self.script.append(f"{name}: {text};")
         self.lines.append(line)
+        self.events += 1
 
     def open_session(self):
         name = self.chance.choice(("ANN", "BOB", "CLEO", "DAN", "EVE"))
@@ -282,6 +307,74 @@ class Run:
         if self.in_transaction[name]:
             self.in_transaction[name] = False
             self.note(name, "ROLLBACK", f"{name}: ROLLBACK\n")
+
+    def serve_users(self):
+        """A session for each of more users than there are places, one after the other."""
+        for user in range(USERS):
+            status, reply = self.library.call(OPEN_SESSION, b"USER%d" % user)
+            reader = Reader(reply)
+            self.expect(status == DONE and reader.byte() == SESSION, f"status {status} of opening USER{user}")
+            session = reader.number()
+            self.expect(self.library.call(CLOSE_SESSION, number(session))[0] == DONE, f"USER{user} stays open")
+            self.closed.append(session)
+        self.calls += 2 * USERS
+
+    def checkpoint(self, program):
+        """Drops and creates rules. The rows that the next epoch begins on are asked for first, by a transaction."""
+        dropped = self.chance.sample([*self.schema.rules, "NOWHERE"], self.chance.choice((0, 1)))
+        created = self.chance.sample(list(RULES), self.chance.choice((0, 1, 1, 2)))
+        text = "".join(RULES[name] for name in created).encode()
+        names = number(len(dropped)) + b"".join(map(value_bytes, dropped))
+        request = number(len(text)) + text + names
+        if any(self.in_transaction.values()):
+            return self.refuse_rules(request, "15 - TRANSACTION OPEN")
+        rows = self.rows()
+        fault = self.fault_of_rules(program, dropped, created, rows)
+        if fault:
+            return self.refuse_rules(request, fault)
+        status, reply = self.call(CHECKPOINT, request)
+        reader = Reader(reply)
+        self.expect(status == DONE and reader.byte() == TEXT, f"status {status} of a checkpoint: {reply!r}")
+        self.epochs.append((self.schema, self.script, "".join(self.lines) + reader.text()))
+        self.schema = self.with_rules(dropped, created, rows)
+        self.script, self.lines, self.order = [], [], []
+
+    def with_rules(self, dropped, created, rows):
+        rules = {name: text for name, text in self.schema.rules.items() if name not in dropped}
+        return self.schema._replace(rules=rules | {name: RULES[name] for name in created}, rows=rows)
+
+    def fault_of_rules(self, program, dropped, created, rows):
+        """What the rules are refused for, if they are: a name to drop, or what the program says of the definitions."""
+        for name in dropped:
+            if name not in self.schema.rules:
+                return f"3 - {name}"
+        left, new = self.with_rules(dropped, [], rows), [RULES[name] for name in created]
+        status, told = self.replay(program, left._replace(rows="\n".join([*new, rows])), [])
+        return told.removeprefix("DEFS: REFUSED ").rstrip("\n") if status else None
+
+    def refuse_rules(self, request, fault):
+        before = self.library.call(REPORT, b"")
+        status, reply = self.call(CHECKPOINT, request)
+        self.expect(status == REFUSED, f"status {status} of a checkpoint, wanted {fault}")
+        kind, told = told_by(reply)
+        self.expect(kind == REFUSAL and told == f"REFUSED {fault}", f"{told!r}, wanted {fault}")
+        self.expect(self.library.call(REPORT, b"") == before, "a checkpoint that was refused changed something")
+
+    def rows(self):
+        """The rows of each table, as INSERTs."""
+        if not self.sessions:
+            self.open_session()
+        name, session = next(iter(self.sessions.items()))
+        self.event(name, "BEGIN READ ONLY", BEGIN_READ_ONLY, number(session))
+        written = [line for table in self.schema.names for line in self.rows_of_table(name, session, table)]
+        self.event(name, "ROLLBACK", ROLLBACK, number(session))
+        return "\n".join(written)
+
+    def rows_of_table(self, name, session, table):
+        text = f"SELECT * FROM {table}"
+        self.event(name, text, EXECUTE, number(session) + text.encode())
+        rows = self.lines[-1].splitlines()[1:]
+        return [f"INSERT INTO {table} VALUES ({row.strip()});" for row in rows]
 
     def prepare(self):
         text = self.chance.choice(list(STATEMENTS))
@@ -365,8 +458,12 @@ class Run:
         del self.statements[statement]
         self.expect(self.call(FORGET, number(statement))[0] == DONE, "a statement was not forgotten")
 
-    def step(self):
+    def step(self, program):
         pick = self.chance.random()
+        if pick < 0.001:
+            return self.serve_users()
+        if 0.3 < pick < (0.305 if any(self.in_transaction.values()) else 0.4):
+            return self.checkpoint(program)
         if not self.sessions or pick < 0.02:
             return self.open_session()
         if not self.statements or pick < 0.05:
@@ -388,13 +485,21 @@ class Run:
         self.expect(reader.byte() == TEXT, "no report")
         return "".join(self.lines) + left + reader.text()
 
-    def replayed(self, program):
+    def replay(self, program, schema, script):
+        """The status, and what was printed."""
         with tempfile.TemporaryDirectory() as folder:
-            definitions, script = pathlib.Path(folder, "defs.sql"), pathlib.Path(folder, "script.sql")
-            definitions.write_text(self.definitions)
-            script.write_text("\n".join(self.script) + "\n")
-            words = [program, "replay", *self.limit_words(), str(definitions), str(script)]
-            return subprocess.run(words, capture_output=True, text=True, check=True).stdout
+            definitions, events = pathlib.Path(folder, "defs.sql"), pathlib.Path(folder, "script.sql")
+            definitions.write_text(schema.text())
+            events.write_text("\n".join(script) + "\n")
+            words = [program, "replay", *self.limit_words(), str(definitions), str(events)]
+            done = subprocess.run(words, capture_output=True, text=True, check=False)
+            return done.returncode, done.stdout or done.stderr.splitlines(keepends=True)[0]
+
+    def compare(self, program):
+        """Replays each epoch."""
+        for schema, script, told in [*self.epochs, (self.schema, self.script, self.report())]:
+            _, replayed = self.replay(program, schema, script)
+            self.expect(told == replayed, first_difference(told, replayed))
 
     def limit_words(self):
         return ["--max-commits", str(self.limit)]
@@ -418,9 +523,8 @@ def one_run(shared, program, seed):
     run = Run(shared, random.Random(seed))
     try:
         while run.calls < CALLS_IN_A_RUN:
-            run.step()
-        told, replayed = run.report(), run.replayed(program)
-        run.expect(told == replayed, first_difference(told, replayed))
+            run.step(program)
+        run.compare(program)
     except ValueError as fault:
         return run, f"seed {seed}: {fault}"
     finally:
@@ -443,11 +547,12 @@ def main():
     words.add_argument("--seed", type=int, default=1)
     given = words.parse_args()
     shared = bind(str(given.library.resolve()))
-    calls = events = differs = seed = 0
+    calls = events = epochs = differs = seed = 0
     answers = collections.Counter()
     while calls < given.calls:
         run, fault = one_run(shared, given.program, given.seed * 10**6 + seed)
-        seed, calls, events = seed + 1, calls + run.calls, events + len(run.lines)
+        seed, calls, epochs = seed + 1, calls + run.calls, epochs + len(run.epochs) + 1
+        events += run.events
         for line in run.lines:
             told = line.split(": ", 1)[1].split()
             answers[" ".join(told[:2]) if told[0] == "REFUSED" else told[0]] += 1
@@ -455,7 +560,7 @@ def main():
             differs += 1
             print(fault)
     print(", ".join(f"{word} {count}" for word, count in sorted(answers.items())))
-    print(f"{calls} calls, {events} events in {seed} scripts, {differs} differ")
+    print(f"{calls} calls, {events} events in {epochs} epochs of {seed} runs, {differs} differ")
     sys.exit(differs != 0)
 
 

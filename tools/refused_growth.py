@@ -14,7 +14,6 @@ this compiles), until a run meets no refusal. One of these must come of it:
 
 - the words of the command line find no memory, or DEFS or SCRIPT is refused `1 - NO MEMORY`, and nothing is written on
   standard output;
-- the run is stopped (`SCRIPT: STOPPED 1 - NO MEMORY`), and what was written before is a beginning of the report;
 - one event is answered `REFUSED 1 - NO MEMORY`, and the rest is the report of the script without that event: nothing
   of it was kept, and nothing was lost;
 - all is answered as ever.
@@ -138,8 +137,6 @@ def judge(program, definitions, events, words, whole, got):
     status, out, err, _ = got
     if status == 1 and out == "" and err in ("DEFS: REFUSED 1 - NO MEMORY\n", "SCRIPT: REFUSED 1 - NO MEMORY\n"):
         return "a text"
-    if status == 1 and err == "SCRIPT: STOPPED 1 - NO MEMORY\n" and whole.startswith(out):
-        return "the run"
     if out == "" and (status == 1 and err == "REFUSED 1 - NO MEMORY\n" or status == 2 and "memory" in err):
         return "the command line"
     if status != 0 or err:

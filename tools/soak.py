@@ -82,24 +82,20 @@ class Soak:
         if (status == 1 and err in TEXT_REFUSED or status == 2 and "memory" in err) and out == "":
             self.count["replay: a text or the command line found no memory"] += 1
             return True
-        stopped = status == 1 and err == "SCRIPT: STOPPED 1 - NO MEMORY\n"
-        return (stopped or status == 0) and self.is_without_events(replies(out), stopped)
+        return status == 0 and self.is_without_events(replies(out))
 
-    def is_without_events(self, groups, stopped):
-        """Whether a report is that of the script without the events that found no memory, or its beginning."""
+    def is_without_events(self, groups):
+        """Whether a report is that of the script without the events that found no memory."""
         events = open(self.script).read().splitlines()
-        length = min(len(groups), len(events)) if stopped else len(events)
-        refused = {at for at in range(length) if groups[at][0].endswith(NO_MEMORY)}
+        refused = {at for at in range(len(events)) if groups[at][0].endswith(NO_MEMORY)}
         self.count["replay: events without memory"] += len(refused)
-        self.count["replay: stopped"] += stopped
-        left = [event for at, event in enumerate(events[:length]) if at not in refused]
+        left = [event for at, event in enumerate(events) if at not in refused]
         with open(self.other, "w") as it:
             it.write("\n".join(left) + "\n")
         want = replies(self.answered(self.other)[1])
         for at in sorted(refused):
             want.insert(at, [f"{events[at].split(':')[0]}: {NO_MEMORY}"])
-        # (the last line of a beginning may be cut)
-        return groups[:length - 1] == want[:length - 1] if stopped else groups == want
+        return groups == want
 
     def threads(self, kib):
         status, out, err = run([self.program, "threads", self.defs, self.script], kib)

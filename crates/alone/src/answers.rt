@@ -33,7 +33,10 @@ pub enum Answer {
     /// The transaction was ended, and nothing of it kept.
     RolledBack,
     /// The event was refused. A COMMIT refused as violated, as a write conflict, as dangerous or by a full epoch has
-    /// ended its transaction, and the committed tables are as before; after any other refusal nothing has changed.
+    /// ended its transaction, and the committed tables are as before. After any other refusal all tables are as before.
+    /// But a statement that was refused for what it read (a key that is there, a false assertion) is a part of its
+    /// transaction, and what it read counts: it may make the COMMIT dangerous. One that is refused for its text or its
+    /// names alone, or for want of memory, has read nothing.
     Refused(Refusal),
 }
 

@@ -37,10 +37,11 @@
 //! - What can't stand in a resolved condition has no type, and so is a mismatch wherever its type is asked for: NULL
 //!   as a literal, and a column or a slot that is not there. A table past the end of the catalog has no columns.
 //!
-//! **What a condition sees.** A WHERE sees the columns of its table, and no slots. The condition of an assertion by
-//! rows sees the columns of its table and, in its slots, what the row's subqueries give; HAVING sees the grouping
-//! column alone, as column 0, and the aggregates of the group's rows; a single condition sees no column, only its
-//! subqueries. A form is *typed* where each of its conditions is, over what it sees.
+//! **What a condition sees.** A WHERE sees the columns of its table; that of a subquery of an assertion by rows also
+//! sees, in its slots, values of the row around it, each bounded as a column is. The condition of an assertion by rows
+//! sees the columns of its table and, in its slots, what the row's subqueries give; HAVING sees the grouping column
+//! alone, as column 0, and the aggregates of the group's rows; a single condition sees no column, only its subqueries.
+//! A form is *typed* where each of its conditions is, over what it sees.
 //!
 //! **Width.** A form is *bounded* where each expression of its conditions has a bound (see `table`), by the set
 //! functions that fill its slots. A bounded form is evaluated in 128 bits without overflow.

@@ -1,5 +1,6 @@
 -- What each call makes of a database, and what it answers.
 use Rattle.std.specs.Prelude.{◌≡◌, ◌⊎◌, ◌++◌, ℕ, Bool, true, false, List, [], ◌∷◌, map, Option, Some, None, Result, Ok, Err, IsSomeAnd}
+use Rattle.std.specs.List.{list_all}
 use Rattle.value.specs.declared.refusals.Refusal.{Refusal}
 use Rattle.value.specs.declared.refusals.Refusal.TheVariants as refusal
 use Rattle.value.specs.declared.values.Value.{Value}
@@ -17,8 +18,9 @@ use Rattle.syntax.specs.SchemaGrammar.{IsSchema}
 use Rattle.alone.specs.declared.answers.Answer.{Answer}
 use Rattle.definitions.specs.declared.redeclaration.NewAssertion.{NewAssertion}
 use Rattle.definitions.specs.Redeclaration.{definition_of}
-use Rattle.commit.specs.Epochs.{IsNextEpoch, is_any_open}
-use Rattle.commit.specs.Events.{EngineState, IsAnswered, after}
+use Rattle.definitions.specs.Written.{is_assertion}
+use Rattle.commit.specs.Epochs.{IsNextEpoch, is_any_open, next_start_of}
+use Rattle.commit.specs.Events.{EngineState, IsAnswered, after, without_session as engine_without}
 use Rattle.commit.specs.Runs.{beginning, seats_with}
 use Rattle.delta.specs.Views.{ViewState}
 use Rattle.replay.specs.Reports.{closing_part_of}
@@ -57,9 +59,9 @@ abbrev pub refusal_response : Source → Refusal → Response
 refusal_response source why = response.Refused source why
 
 -- the response to a request whose fields could not be read
-abbrev pub field_fault_response : FieldFault → Response
-field_fault_response field.NoMemory = response.Refused source.Statement refusal.NoMemory
-field_fault_response field.Malformed = response.Misused misuse.BadRequest
+abbrev pub field_fault_response : Source → FieldFault → Response
+field_fault_response source field.NoMemory = response.Refused source refusal.NoMemory
+field_fault_response source field.Malformed = response.Misused misuse.BadRequest
 
 -- the response to a run whose values could not be filled in
 abbrev pub fill_fault_response : FillFault → Response
@@ -81,10 +83,11 @@ WithNumber (Some n) Does old new r = Does n old new r
 
 -- ---- sessions
 
--- a session of this name is open, which was not
+-- a session of this name is open, which was not, and for which there was room
 pub record IsOpenedAs (name : List ℕ) (old new : Database) (number : ℕ) : Type 0 where
   pub number_is : number ≡ old.sessions.next
   pub free : is_named name old.sessions ≡ false
+  pub room : has_room old.engine name old.sessions ≡ true
   pub leaves : new ≡ record {
     engine = record old.engine { seats = seats_with old.engine.seats name };
     sessions = with_session name old.sessions;
@@ -96,9 +99,10 @@ abbrev pub OpensNamed : List ℕ → Database → Database → Response → Type
 OpensNamed name old new (response.Session n) = IsOpenedAs name old new n
 OpensNamed name old new (response.Misused m) =
     (m ≡ misuse.NameTaken) × (is_named name old.sessions ≡ true) × (new ≡ old)
-OpensNamed name old new (response.Refused source refusal.TooManySessions) =
-    (has_room old.engine name old.sessions ≡ false) × (new ≡ old)
-OpensNamed name old new (response.Refused source r) = (r ≡ refusal.NoMemory) × (new ≡ old)
+OpensNamed name old new (response.Refused from refusal.TooManySessions) =
+    (from ≡ source.Session) × (has_room old.engine name old.sessions ≡ false) × (new ≡ old)
+OpensNamed name old new (response.Refused from r) =
+    (from ≡ source.Session) × (r ≡ refusal.NoMemory) × (new ≡ old)
 OpensNamed name old new other = ⊥
 
 -- by a name of the language, in which case does not count
@@ -110,12 +114,11 @@ OpensIf true bytes old new r = IsWithoutMemory source.Session old new r ⊎ Open
 abbrev pub OpensSession : List ℕ → Database → Database → Response → Type 0
 OpensSession bytes old new r = OpensIf (is_name bytes) bytes old new r
 
--- the open transaction of a session is rolled back, and its number is none from then on
+-- A session leaves: its open transaction is rolled back, its seat is free for another, and its number is none from then
+-- on.
 pub record IsClosedAs (number : ℕ) (name : List ℕ) (old new : Database) (r : Response) : Type 0 where
-  pub answer : Answer
-  pub answered : IsAnswered old.engine (record { session = name; event = event.Rollback }) answer
   pub leaves : new ≡ record {
-    engine = after old.engine (record { session = name; event = event.Rollback }) answer;
+    engine = engine_without old.engine name;
     sessions = without_session number old.sessions;
     statements = old.statements;
   }
@@ -231,19 +234,6 @@ abbrev pub Reports : Database → Database → Response → Type 0
 Reports old new r =
     IsWithoutMemory source.Rules old new r ⊎ IsTold old new r (response.Closing (closing_part_of old.engine.core))
 
--- whether a response says that a database may have changed
-abbrev pub is_change : Response → Bool
-is_change response.Opened = true
-is_change (response.Session n) = true
-is_change (response.Prepared n parameters) = true
-is_change response.SessionClosed = true
-is_change response.Forgotten = true
-is_change (response.Answered script_line answer) = true
-is_change (response.Closing bytes) = false
-is_change (response.Changed bytes) = true
-is_change (response.Refused source refusal) = false
-is_change (response.Misused misuse) = false
-
 -- a name of the language, in which case does not count
 abbrev pub named_if : Bool → List ℕ → Option (List ℕ)
 named_if true bytes = Some (name_of bytes)
@@ -277,18 +267,29 @@ pub record AreRules (text : List ℕ) (created : List NewAssertion) : Type 0 whe
   pub read : IsRead IsSchema text definitions
   pub written : definitions ≡ map definition_of created
 
--- what a request for a checkpoint asks for
-pub record IsRequested (request : List ℕ) (dropped : List (List ℕ)) (created : List NewAssertion) : Type 0 where
-  pub text : List ℕ
-  pub values : List Value
-  pub read : checkpoint_request request ≡ Some (text, values)
-  pub names : names_of values ≡ Some dropped
-  pub rules : AreRules text created
+-- a text of definitions, one of which is no assertion
+pub record HasOther (text : List ℕ) (why : Refusal) : Type 0 where
+  pub definitions : List Definition
+  pub read : IsRead IsSchema text definitions
+  pub other : list_all is_assertion definitions ≡ false
+  pub refused : why ≡ refusal.OutsideClass
 
--- nothing has changed, and the response says so
-pub record IsLeft (old new : Database) (r : Response) : Type 0 where
-  pub same : new ≡ old
-  pub told : is_change r ≡ false
+-- why a text writes no rules: it is no text of definitions, or one of them is no assertion; or there was no memory
+abbrev pub AreNoRules : (text : List ℕ) → Refusal → Type 0
+AreNoRules text why = IsUnread IsSchema text why ⊎ HasOther text why
+
+-- the rules' text is refused
+pub record AreUnwritten (text : List ℕ) (old new : Database) (r : Response) : Type 0 where
+  pub why : Refusal
+  pub fault : AreNoRules text why
+  pub told : IsTold old new r (response.Refused source.Rules why)
+
+-- the engine refuses the epoch: a transaction is open, or the rules can't be changed so
+pub record AreUnchanged (dropped : List (List ℕ)) (created : List NewAssertion) (old new : Database) (r : Response) :
+    Type 0 where
+  pub why : Refusal
+  pub refused : next_start_of dropped created old.engine ≡ Err why
+  pub told : IsTold old new r (response.Refused source.Rules why)
 
 -- rules are dropped and created, and a new epoch begins; the response is the closing part of the one before
 pub record IsChanged (dropped : List (List ℕ)) (created : List NewAssertion) (old new : Database) (r : Response) :
@@ -300,20 +301,35 @@ pub record IsChanged (dropped : List (List ℕ)) (created : List NewAssertion) (
   pub statements : new.statements ≡ old.statements
   pub told : r ≡ response.Changed (closing_part_of old.engine.core)
 
--- what a checkpoint makes that drops rules of these names and creates these: nothing, or another epoch
+-- what a checkpoint makes that drops rules of these names and creates these: another epoch, or nothing
 abbrev pub ChangesRules : List (List ℕ) → List NewAssertion → Database → Database → Response → Type 0
-ChangesRules dropped created old new r = IsLeft old new r ⊎ IsChanged dropped created old new r
+ChangesRules dropped created old new r =
+    IsWithoutMemory source.Rules old new r ⊎ AreUnchanged dropped created old new r
+    ⊎ IsChanged dropped created old new r
 
--- as the request asks for
-pub record IsCheckpoint (request : List ℕ) (old new : Database) (r : Response) : Type 0 where
-  pub dropped : List (List ℕ)
+-- the same of the rules that a text writes
+pub record ChangesWritten (dropped : List (List ℕ)) (text : List ℕ) (old new : Database) (r : Response) : Type 0 where
   pub created : List NewAssertion
-  pub requested : IsRequested request dropped created
-  pub changed : IsChanged dropped created old new r
+  pub rules : AreRules text created
+  pub changes : ChangesRules dropped created old new r
 
--- what a request for a checkpoint makes, and is told
+-- the same of the names, if each value is one: the text is looked at behind them
+abbrev pub ChangesNamed : Option (List (List ℕ)) → (text : List ℕ) → Database → Database → Response → Type 0
+ChangesNamed None text old new r =
+    IsWithoutMemory source.Rules old new r ⊎ IsTold old new r (response.Misused misuse.BadName)
+ChangesNamed (Some dropped) text old new r =
+    IsWithoutMemory source.Rules old new r ⊎ AreUnwritten text old new r ⊎ ChangesWritten dropped text old new r
+
+-- the same of what was read of the request, if it could be read
+abbrev pub ChangesRead : Option (List ℕ × List Value) → Database → Database → Response → Type 0
+ChangesRead None old new r = IsTold old new r (response.Misused misuse.BadRequest)
+ChangesRead (Some fields) old new r = ChangesNamed (names_of fields.1) fields.0 old new r
+
+-- what a request for a checkpoint makes, and is told: the first fault decides, in the order of the request's fields, its
+-- names, its text and the rules; and there may be no memory
 abbrev pub Checkpoints : List ℕ → Database → Database → Response → Type 0
-Checkpoints request old new r = IsLeft old new r ⊎ IsCheckpoint request old new r
+Checkpoints request old new r =
+    IsWithoutMemory source.Rules old new r ⊎ ChangesRead (checkpoint_request request) old new r
 
 -- ---- the columns of a SELECT that lists all
 

@@ -6,7 +6,7 @@ ghost use Rattle.messages.specs.Requests.{only_number};
 ghost use Rattle.replay.specs.Reports.{closing_part_of};
 ghost use Rattle.calls.specs.Calls as spec;
 
-use crate::sessions::{Session, Sessions};
+use crate::sessions::Sessions;
 use crate::statements::Statements;
 use commit::{Core, Engine};
 use definitions::{NewAssertion, new_assertions};
@@ -16,8 +16,7 @@ use messages::{
 };
 use parse::{parse_schema, parse_statement};
 use prepared::{FillFault, prepare};
-use replay::{add_closing_part, admit_text};
-use report::Report;
+use replay::{admit_text, write_closing_part};
 use std::alloc::{AllocError, Global};
 use syntax::{Event, ScriptLine, Statement};
 use table::Column;
@@ -38,11 +37,11 @@ fn refusal_response(source: Source, refusal: Refusal) -> Response
 }
 
 /// What a request is answered whose fields were not read.
-fn field_fault_response(fault: FieldFault) -> Response
-    ensures { result ≡ spec.field_fault_response fault }
+fn field_fault_response(source: Source, fault: FieldFault) -> Response
+    ensures { result ≡ spec.field_fault_response source fault }
 {
     match fault {
-        FieldFault::NoMemory => refusal_response(Source::Statement, Refusal::NoMemory),
+        FieldFault::NoMemory => refusal_response(source, Refusal::NoMemory),
         FieldFault::Malformed => Response::Misused(Misuse::BadRequest),
     }
 }
@@ -62,13 +61,6 @@ fn fill_fault_response(fault: FillFault) -> Response
         }),
         FillFault::TextNotPlain { parameter } => Response::Misused(Misuse::BadValue { parameter }),
     }
-}
-
-/// The rules that a checkpoint changes.
-#[derive(Drop)]
-struct RuleChanges {
-    dropped: Vec<Text>,
-    created: Vec<NewAssertion>,
 }
 
 /// Adds the name that a value has, if it is a text and a name of the language.
@@ -102,41 +94,23 @@ fn read_names(alloc: Global, values: &[Value]) -> Result<Option<Vec<Text>>, Allo
 
 /// The rules that a text creates.
 fn read_rules(alloc: Global, text: &[u8]) -> Result<Vec<NewAssertion>, Refusal>
-    ensures { IfOk result (λ created. spec.AreRules text.now created.items) }
+    ensures read { IfOk result (λ created. spec.AreRules text.now created.items) }
+    ensures refused { IfErr result (spec.AreNoRules text.now) }
 {
     let definitions = parse_schema(alloc, text)?;
     let created = new_assertions(alloc, definitions)?;
     Ok(created)
 }
 
-/// The changes of a request, or the response where it has none.
-fn read_changes(alloc: Global, request: &[u8]) -> Result<RuleChanges, Response>
-    ensures read { IfOk result (λ changes.
-        spec.IsRequested request.now changes.dropped.items changes.created.items) }
-    ensures left { IfErr result (λ r. spec.is_change r ≡ false) }
-{
-    let (text, values) = match read_checkpoint(alloc, request) {
-        Ok(read) => read,
-        Err(fault) => return Err(field_fault_response(fault)),
-    };
-    let dropped = match read_names(alloc, &values) {
-        Ok(Some(dropped)) => dropped,
-        Ok(None) => return Err(Response::Misused(Misuse::BadName)),
-        Err(_) => return Err(refusal_response(Source::Rules, Refusal::NoMemory)),
-    };
-    match read_rules(alloc, text) {
-        Ok(created) => Ok(RuleChanges { dropped, created }),
-        Err(refusal) => Err(refusal_response(Source::Rules, refusal)),
-    }
-}
-
 /// The closing part of a report on commits.
 fn closing_part(alloc: Global, core: &Core) -> Result<Text, AllocError>
     ensures { IfOk result (λ text. text ≡ closing_part_of core.now) }
 {
-    let mut report = Report::new(alloc);
-    add_closing_part(alloc, core, &mut report)?;
-    let bytes = Vec::from_slice(alloc, report.as_bytes())?;
+    let mut bytes = Vec::new(alloc);
+    // (a list of bytes takes all bytes for which there is memory)
+    if write_closing_part(core, &mut bytes).is_err() {
+        return Err(AllocError);
+    }
     Text::new(bytes)
 }
 
@@ -220,19 +194,15 @@ impl Database {
         }
     }
 
-    /// Closes a session, and rolls its open transaction back. It takes no memory.
+    /// Closes a session, and rolls its open transaction back. Its name is free for another session then. It takes no
+    /// memory.
     fn close_session(&mut self, number: u64) -> Response
         ensures { spec.ClosesSession number self.old self.new result }
     {
         let Some(session) = self.sessions.close(number) else {
             return Response::Misused(Misuse::NoSession);
         };
-        let Session { number: _, name } = session;
-        let script_line = ScriptLine {
-            session: name,
-            event: Event::Rollback,
-        };
-        drop(self.engine.answer(&script_line));
+        self.engine.unseat(&session.name);
         Response::SessionClosed
     }
 
@@ -275,7 +245,7 @@ impl Database {
                 fields.statement,
                 &fields.values,
             ),
-            Err(fault) => field_fault_response(fault),
+            Err(fault) => field_fault_response(Source::Statement, fault),
         }
     }
 
@@ -356,24 +326,45 @@ impl Database {
         }
     }
 
+    /// Changes the rules as a request asks, with a new epoch.
     fn checkpoint(&mut self, alloc: Global, request: &[u8]) -> Response
         ensures { spec.Checkpoints request.now self.old self.new result }
     {
-        match read_changes(alloc, request) {
-            Ok(changes) => self.change_rules(alloc, &changes),
-            Err(response) => response,
+        match read_checkpoint(alloc, request) {
+            Ok((text, values)) => self.drop_and_create(alloc, &values, text),
+            Err(fault) => field_fault_response(Source::Rules, fault),
+        }
+    }
+
+    /// Drops the rules whose names these values are, and creates those of a text.
+    fn drop_and_create(&mut self, alloc: Global, values: &[Value], text: &[u8]) -> Response
+        ensures { spec.ChangesNamed (spec.names_of values.now) text.now self.old self.new result }
+    {
+        let dropped = match read_names(alloc, values) {
+            Ok(Some(dropped)) => dropped,
+            Ok(None) => return Response::Misused(Misuse::BadName),
+            Err(_) => return refusal_response(Source::Rules, Refusal::NoMemory),
+        };
+        match read_rules(alloc, text) {
+            Ok(created) => self.change_rules(alloc, &dropped, &created),
+            Err(refusal) => refusal_response(Source::Rules, refusal),
         }
     }
 
     /// Changes the rules, with a new epoch. The closing part of the one before is made first, so that nothing fails
     /// behind the change.
-    fn change_rules(&mut self, alloc: Global, changes: &RuleChanges) -> Response
-        ensures { spec.ChangesRules changes.now.dropped.items changes.now.created.items self.old self.new result }
+    fn change_rules(
+        &mut self,
+        alloc: Global,
+        dropped: &[Text],
+        created: &[NewAssertion],
+    ) -> Response
+        ensures { spec.ChangesRules dropped.now created.now self.old self.new result }
     {
         let Ok(text) = closing_part(alloc, self.engine.core()) else {
             return refusal_response(Source::Rules, Refusal::NoMemory);
         };
-        match self.engine.checkpoint(&changes.dropped, &changes.created) {
+        match self.engine.checkpoint(dropped, created) {
             Ok(before) => {
                 drop(before);
                 Response::Changed(text)

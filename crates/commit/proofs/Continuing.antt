@@ -16,7 +16,7 @@ use Rattle.commit.specs.declared.engine.Outcome.{Outcome}
 use Rattle.commit.specs.declared.epochs.Epoch.{Epoch}
 use Rattle.commit.specs.declared.seats.Seat.{Seat}
 use Rattle.commit.specs.Cores.{CoreState, newest_tables}
-use Rattle.commit.specs.Epochs.{AreOutcomes, IsEnd, IsNextEpoch, IsOneMore, IsOutcome, IsWhole, is_any_open, next_start, tables_left}
+use Rattle.commit.specs.Epochs.{AreOutcomes, IsEnd, IsNextEpoch, IsOneMore, IsOutcome, IsWhole, IsWholeBefore, is_any_open, next_start, tables_left}
 use Rattle.commit.specs.Events.{AreLive, txn_of}
 
 -- where no transaction is open, none is in a seat
@@ -38,16 +38,22 @@ pub left_by : (before : ViewState) (outcomes : List Outcome) (outcome : Outcome)
 left_by before [] outcome = refl
 left_by before (o ∷ rest) outcome = left_by (newest_tables o.engine.core) rest outcome
 
--- an epoch more
-outcome_more : (limit : ℕ) (before : ViewState) (epochs : List Epoch) (outcomes : List Outcome) (epoch : Epoch) (outcome : Outcome) → slice_get epochs (length outcomes) ≡ Some epoch
-    → AreOutcomes limit before epochs outcomes → IsOutcome limit (tables_left before outcomes) epoch outcome → AreOutcomes limit before epochs (outcomes ++ outcome ∷ [])
-outcome_more limit before [] [] epoch outcome at all one = cc
-outcome_more limit before (e ∷ es) [] epoch outcome at all one =
+-- one that was answered whole may have any behind it
+whole_before : (epoch : Epoch) (outcome : Outcome) (rest : List Outcome) → IsWhole epoch outcome → IsWholeBefore epoch outcome rest
+whole_before epoch outcome [] whole = tt
+whole_before epoch outcome (next ∷ rest) whole = whole
+
+-- an epoch more, behind those that were answered whole
+outcome_more : (limit : ℕ) (before : ViewState) (epochs : List Epoch) (n : ℕ) (outcomes : List Outcome) (epoch : Epoch) (outcome : Outcome) → slice_get epochs (length outcomes) ≡ Some epoch
+    → AreOutcomes limit before epochs outcomes → Pairs IsWhole (take n epochs) outcomes → IsOutcome limit (tables_left before outcomes) epoch outcome → AreOutcomes limit before epochs (outcomes ++ outcome ∷ [])
+outcome_more limit before [] n [] epoch outcome at all whole one = cc
+outcome_more limit before (e ∷ es) n [] epoch outcome at all whole one =
     let same : e ≡ epoch = cc in
-    (subst (λ (x : Epoch). IsOutcome limit before x outcome) (sym same) one, tt)
-outcome_more limit before [] (o ∷ rest) epoch outcome at all one = absurd all
-outcome_more limit before (e ∷ es) (o ∷ rest) epoch outcome at all one =
-    (all.0, outcome_more limit (newest_tables o.engine.core) es rest epoch outcome at all.1 one)
+    (subst (λ (x : Epoch). IsOutcome limit before x outcome) (sym same) one, tt, tt)
+outcome_more limit before [] n (o ∷ rest) epoch outcome at all whole one = absurd all
+outcome_more limit before (e ∷ es) zero (o ∷ rest) epoch outcome at all whole one = absurd whole
+outcome_more limit before (e ∷ es) (suc n) (o ∷ rest) epoch outcome at all whole one =
+    (all.0, whole_before e o (rest ++ outcome ∷ []) whole.0, outcome_more limit (newest_tables o.engine.core) es n rest epoch outcome at all.2 whole.1 one)
 
 pairs_long : {X Y : Type 0} (P : X → Y → Type 0) (xs : List X) (ys : List Y) → Pairs P xs ys → length xs ≡ length ys
 pairs_long P [] [] h = refl
@@ -81,7 +87,7 @@ pub one_more : (limit : ℕ) (before : ViewState) (epochs : List Epoch) (n : ℕ
     → IsOneMore limit before epoch outcomes more whole → AreOutcomes limit before epochs more
 one_more limit before epochs n outcomes more epoch whole less is passed one =
     subst (AreOutcomes limit before epochs) (sym one.more_is)
-    (outcome_more limit before epochs outcomes epoch one.outcome (next_epoch limit before epochs n outcomes epoch less is passed) passed.outcomes_are one.is)
+    (outcome_more limit before epochs n outcomes epoch one.outcome (next_epoch limit before epochs n outcomes epoch less is passed) passed.outcomes_are passed.whole one.is)
 
 pub passed_more : (limit : ℕ) (before : ViewState) (epochs : List Epoch) (n : ℕ) (outcomes more : List Outcome) (epoch : Epoch) → n < length epochs → epoch ≡ get_or epochs n epoch → HavePassed limit before epochs n outcomes
     → IsOneMore limit before epoch outcomes more true → HavePassed limit before epochs (n + 1) more
@@ -104,6 +110,8 @@ pub refused_next : (limit : ℕ) (before : ViewState) (epochs : List Epoch) (n :
     → more ≡ outcomes → (refusal ≢ NoMemory → next_start epoch.dropped.items epoch.created.items (tables_left before outcomes) ≡ Err refusal) → IsEnd before epochs more (Some refusal)
 refused_next limit before epochs n outcomes more epoch refusal less is passed same refused known = record {
   epoch = epoch;
+  whole = subst (λ (os : List Outcome). Pairs IsWhole (take (length os) epochs) os) (sym same)
+      (subst (λ (k : ℕ). Pairs IsWhole (take k epochs) outcomes) (sym (passed_long limit before epochs n outcomes less passed)) passed.whole);
   next = ap (λ (os : List Outcome). slice_get epochs (length os)) same ∙ next_epoch limit before epochs n outcomes epoch less is passed;
   refused = ap (λ (os : List Outcome). next_start epoch.dropped.items epoch.created.items (tables_left before os)) same ∙ refused known;
 }

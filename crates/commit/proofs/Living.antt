@@ -1,6 +1,6 @@
 -- Open transactions live on as others begin, are committed, and end.
 use Rattle.std.proofs.Common.{◌≡◌, ◌<◌, Bool, ℕ, zero, suc, true, false, cond, List, [], ◌∷◌, ◌++◌, Option, Some, None, Result, Ok, Err, length, reverse, inl, inr, refl, sym, ap, ◌∙◌, subst, arith}
-use Rattle.std.specs.Prelude.{◌⊎◌, slice_get, slice_set, OnOk, OnErr, IfOk}
+use Rattle.std.specs.Prelude.{◌⊎◌, remove, slice_get, slice_set, OnOk, OnErr, IfOk}
 use Rattle.std.proofs.lemmas.Bool.{cases_eq}
 use Rattle.std.proofs.lemmas.List.{length-append}
 use Rattle.std.proofs.lemmas.List.Elements.{All-nil}
@@ -12,18 +12,23 @@ use Rattle.syntax.specs.declared.statements.Event.TheVariants.{Begin, BeginReadO
 use Rattle.alone.specs.declared.answers.Answer.{Answer}
 use Rattle.alone.specs.declared.answers.Answer.TheVariants.{Begun, Committed, Refused, Replied, RolledBack}
 use Rattle.conflict.specs.declared.open_snapshots.LiveSnapshot.{LiveSnapshot}
-use Rattle.conflict.specs.Live.{AreBelow}
+use Rattle.conflict.specs.Live.{AreBelow, has_begin_number}
 use Rattle.delta.specs.Views.{ViewState}
 use Rattle.alone.specs.Epoch.{newest, state_of}
 use Rattle.alone.proofs.Replays.{held_same}
 use Rattle.alone.specs.declared.records.Record.{Record}
-use Rattle.txn.specs.Transactions.{OpenTransaction}
+use Rattle.txn.specs.Transactions.{OpenTransaction, transaction_at_begin}
 use Rattle.commit.specs.declared.seats.Seat.{Seat}
-use Rattle.commit.specs.Cores.{CoreState, IsLive, core_after_commit, core_after_end, log_of, record_of, refused_to, with_begun}
+use Rattle.commit.specs.Cores.{CoreState, IsLive, core_after_commit, core_after_end, log_of, newest_tables, record_of, refused_to, with_begun}
 use Rattle.commit.specs.Runs.{empty_core, seats_with_all, free_seat, seats_with, unless_seated}
-use Rattle.commit.specs.Events.{AreLive, EngineState, IsAnswered, IsAnsweredAt, IsReply, after, after_at, core_after, decided_core, found_no_memory, seat_of, seats_set, as_answer, takes_memory, takes_memory_at, txn_after, txn_of}
+use Rattle.commit.specs.Events.{AreLive, EngineState, IsAnswered, IsAnsweredAt, IsReply, after, after_at, core_after, core_without, decided_core, found_no_memory, seat_of, seats_set, as_answer, takes_memory, takes_memory_at, txn_after, txn_of, without_seat, without_session}
 use Rattle.commit.proofs.Recording.{log_with}
 use Rattle.commit.proofs.BeginNumbers.{fewer, held_more, held_other, one_more, begin_number_below}
+
+-- what holds of both holds of either
+pub either_way : {X : Type 0} (P : X → Type 0) (b : Bool) (x y : X) → P x → P y → P (cond b x y)
+either_way P true x y one other = one
+either_way P false x y one other = other
 
 live_begun : (c : CoreState) (read_only : Bool) (other : OpenTransaction) → IsLive c other → IsLive (with_begun read_only c) other
 live_begun c read_only other l = record {
@@ -77,9 +82,9 @@ IsApart txn other = (t : OpenTransaction) → txn ≡ Some t → other.begin_num
 
 -- as an event is answered
 live_after : (c : CoreState) (session : List ℕ) (event : Event) (txn : Option OpenTransaction) (answer : Answer) (other : OpenTransaction) → IsApart txn other → IsLive c other → IsLive (core_after c session event txn answer) other
-live_after c session Begin None answer other apart l = live_begun c false other l
+live_after c session Begin None answer other apart l = either_way (λ core. IsLive core other) (has_begin_number c.live) (with_begun false c) c (live_begun c false other l) l
 live_after c session Begin (Some t) answer other apart l = l
-live_after c session BeginReadOnly None answer other apart l = live_begun c true other l
+live_after c session BeginReadOnly None answer other apart l = either_way (λ core. IsLive core other) (has_begin_number c.live) (with_begun true c) c (live_begun c true other l) l
 live_after c session BeginReadOnly (Some t) answer other apart l = l
 live_after c session (Run statement) txn answer other apart l = l
 live_after c session Commit None answer other apart l = l
@@ -97,9 +102,11 @@ below_decided c session t (Refused refusal) below = fewer c.live t.begin_number 
 
 below_after : (c : CoreState) (session : List ℕ) (event : Event) (txn : Option OpenTransaction) (answer : Answer) → AreBelow c.live.begun c.live.snapshots
     → AreBelow (core_after c session event txn answer).live.begun (core_after c session event txn answer).live.snapshots
-below_after c session Begin None answer below = one_more c.live (length c.records) false below
+below_after c session Begin None answer below =
+    either_way (λ (core : CoreState). AreBelow core.live.begun core.live.snapshots) (has_begin_number c.live) (with_begun false c) c (one_more c.live (length c.records) false below) below
 below_after c session Begin (Some t) answer below = below
-below_after c session BeginReadOnly None answer below = one_more c.live (length c.records) true below
+below_after c session BeginReadOnly None answer below =
+    either_way (λ (core : CoreState). AreBelow core.live.begun core.live.snapshots) (has_begin_number c.live) (with_begun true c) c (one_more c.live (length c.records) true below) below
 below_after c session BeginReadOnly (Some t) answer below = below
 below_after c session (Run statement) txn answer below = below
 below_after c session Commit None answer below = below
@@ -115,9 +122,9 @@ idle_decided c session t RolledBack idle = idle
 idle_decided c session t (Refused refusal) idle = idle
 
 idle_after : (c : CoreState) (session : List ℕ) (event : Event) (txn : Option OpenTransaction) (answer : Answer) → c.prepared ≡ None → (core_after c session event txn answer).prepared ≡ None
-idle_after c session Begin None answer idle = idle
+idle_after c session Begin None answer idle = either_way (λ (core : CoreState). core.prepared ≡ None) (has_begin_number c.live) (with_begun false c) c idle idle
 idle_after c session Begin (Some t) answer idle = idle
-idle_after c session BeginReadOnly None answer idle = idle
+idle_after c session BeginReadOnly None answer idle = either_way (λ (core : CoreState). core.prepared ≡ None) (has_begin_number c.live) (with_begun true c) c idle idle
 idle_after c session BeginReadOnly (Some t) answer idle = idle
 idle_after c session (Run statement) txn answer idle = idle
 idle_after c session Commit None answer idle = idle
@@ -134,9 +141,17 @@ abbrev IsFrom : CoreState → Option OpenTransaction → OpenTransaction → Typ
 IsFrom c txn t = (t.begin_number ≡ c.live.begun) ⊎ ((old : OpenTransaction) × (txn ≡ Some old) × (old.begin_number ≡ t.begin_number))
 
 is_from : (c : CoreState) (event : Event) (txn : Option OpenTransaction) (t : OpenTransaction) → txn_after c event txn ≡ Some t → IsFrom c txn t
-is_from c Begin None t e = inl (sym (ap (begin_number_or 0) e))
+is_from c Begin None t e = go (has_begin_number c.live) e
+  where
+    go : (b : Bool) → cond b (Some (transaction_at_begin c.live.begun (length c.records) false (newest_tables c))) None ≡ Some t → IsFrom c None t
+    go true e = inl (sym (ap (begin_number_or 0) e))
+    go false e = let no : ⊥ = cc in absurd no
 is_from c Begin (Some old) t e = inr (old, refl, ap (begin_number_or 0) e)
-is_from c BeginReadOnly None t e = inl (sym (ap (begin_number_or 0) e))
+is_from c BeginReadOnly None t e = go (has_begin_number c.live) e
+  where
+    go : (b : Bool) → cond b (Some (transaction_at_begin c.live.begun (length c.records) true (newest_tables c))) None ≡ Some t → IsFrom c None t
+    go true e = inl (sym (ap (begin_number_or 0) e))
+    go false e = let no : ⊥ = cc in absurd no
 is_from c BeginReadOnly (Some old) t e = inr (old, refl, ap (begin_number_or 0) e)
 is_from c (Run statement) None t e = let no : ⊥ = cc in absurd no
 is_from c (Run statement) (Some old) t e = inr (old, refl, ap (begin_number_or 0) e)
@@ -256,6 +271,69 @@ module _ (now : EngineState) (line : ScriptLine) (place : ℕ) (seat : Seat) (co
         ∙ ap (λ b. cond b now (after_at now line.session line.event (seat_of now.seats line.session) answer)) (sym known)
     is_after (Err error) known commits seats same unchanged =
         λ i. record { core = same.0 i; seats = (ap (slice_set now.seats place) same.1 ∙ unchanged) i }
+
+-- where an element of a list stood before the one at a place was taken out
+before_removal : (place i : ℕ) → ℕ
+before_removal zero i = suc i
+before_removal (suc place) zero = zero
+before_removal (suc place) (suc i) = suc (before_removal place i)
+
+removed_at : {X : Type 0} (xs : List X) (place i : ℕ) → slice_get (remove xs place) i ≡ slice_get xs (before_removal place i)
+unfolding before_removal
+removed_at [] zero i = refl
+removed_at [] (suc place) zero = refl
+removed_at [] (suc place) (suc i) = refl
+removed_at (x ∷ xs) zero i = refl
+removed_at (x ∷ xs) (suc place) zero = refl
+removed_at (x ∷ xs) (suc place) (suc i) = removed_at xs place i
+
+pred_or : ℕ → ℕ → ℕ
+pred_or n zero = n
+pred_or n (suc i) = i
+
+removed_apart : (place i j : ℕ) → before_removal place i ≡ before_removal place j → i ≡ j
+unfolding before_removal pred_or
+removed_apart zero i j e = ap (pred_or 0) e
+removed_apart (suc place) zero zero e = refl
+removed_apart (suc place) zero (suc j) e = let no : ⊥ = omega (arith, e) in absurd no
+removed_apart (suc place) (suc i) zero e = let no : ⊥ = omega (arith, e) in absurd no
+removed_apart (suc place) (suc i) (suc j) e = ap suc (removed_apart place i j (ap (pred_or 0) e))
+
+-- a seat less opens no transaction
+pub live_removed : (core : CoreState) (seats : List Seat) (place : ℕ) → AreLive core seats → AreLive core (remove seats place)
+live_removed core seats place live = record {
+  each = λ i t h. live.each (before_removal place i) t (sym (ap txn_of (removed_at seats place i)) ∙ h);
+  apart = λ i j t u h g same. removed_apart place i j (live.apart (before_removal place i) (before_removal place j) t u
+      (sym (ap txn_of (removed_at seats place i)) ∙ h) (sym (ap txn_of (removed_at seats place j)) ∙ g) same);
+  begun = live.begun;
+  idle = live.idle;
+}
+
+-- what was set there goes with it
+pub removed_set : {X : Type 0} (xs : List X) (place : ℕ) (x : X) → remove (slice_set xs place x) place ≡ remove xs place
+removed_set [] place x = refl
+removed_set (y ∷ ys) zero x = refl
+removed_set (y ∷ ys) (suc place) x = ap (λ rest. y ∷ rest) (removed_set ys place x)
+
+-- the commits after a ROLLBACK, whatever it was answered
+pub core_left : (core : CoreState) (session : List ℕ) (txn : Option OpenTransaction) (answer : Answer) → core_after core session Rollback txn answer ≡ core_without core txn
+core_left core session None answer = refl
+core_left core session (Some t) answer = refl
+
+-- What is left where the session in a seat leaves, whose open transaction was rolled back.
+module _ (now : EngineState) (place : ℕ) (seat left : Seat) (core : CoreState) (answer : Answer)
+    (there : slice_get now.seats place ≡ Some seat) (rolled_back : core ≡ core_after now.core seat.session Rollback seat.txn answer) where
+  pub live_unseated : AreLive now.core now.seats → place < length now.seats → left ≡ record seat { txn = None } → AreLive core (remove (slice_set now.seats place left) place)
+  live_unseated live within closed =
+      live_removed core (slice_set now.seats place left) place
+      (all_answered now (record { session = seat.session; event = Rollback }) place seat core left live within there answer rolled_back closed
+      (subst (λ (s : Seat). HoldsOf (IsLive core) s.txn) (sym closed) tt))
+
+  pub is_unseated : (session : List ℕ) → seat_of now.seats session ≡ Some place → record { core = core; seats = remove (slice_set now.seats place left) place } ≡ without_session now session
+  is_unseated session seated =
+      (λ i. record { core = (rolled_back ∙ core_left now.core seat.session seat.txn answer) i; seats = removed_set now.seats place left i })
+      ∙ ap (λ s. record { core = core_without now.core (txn_of s); seats = remove now.seats place }) (sym there)
+      ∙ ap (without_seat now) (sym seated)
 
 -- where no transaction is open, all are
 abbrev AreFree : List Seat → Type 0

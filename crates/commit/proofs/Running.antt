@@ -21,14 +21,16 @@ use Rattle.alone.specs.Resolve.{is_read_only, resolution_of}
 use Rattle.alone.proofs.ReadOnly.{changes_nothing, one_more, resolved_reads}
 use Rattle.delta.specs.Views.{ViewState}
 use Rattle.conflict.specs.declared.open_snapshots.LiveSnapshot.{LiveSnapshot}
+use Rattle.conflict.specs.Live.{has_begin_number}
+use Rattle.alone.specs.Commits.{IsLog}
 use Rattle.alone.specs.Epoch.{IsEpoch}
-use Rattle.txn.specs.Transactions.{OpenTransaction, outcome_of, with_statement}
+use Rattle.txn.specs.Transactions.{OpenTransaction, outcome_of, transaction_at_begin, with_statement}
 use Rattle.commit.specs.declared.seats.Seat.{Seat}
-use Rattle.commit.specs.Cores.{CoreState, IsCommitAnswer, IsLive, core_after_commit, log_of, record_of}
+use Rattle.commit.specs.Cores.{CoreState, IsCommitAnswer, IsLive, core_after_commit, log_of, newest_tables, record_of, with_begun}
 use Rattle.commit.specs.Events.{AreLive, EngineState, IsAnswered, IsAnsweredAt, IsReply, IsCommitted, after, after_at, commit_answer, core_after, decided_core, found_no_memory, seat_of, seats_set, txn_after, txn_of, txn_with}
 use Rattle.commit.specs.Runs.{beginning, empty_core, free_seat, led_to}
 use Rattle.commit.proofs.Deciding.{Passed, passed}
-use Rattle.commit.proofs.Living.{all_answered, all_free, all_seated_live, each_set}
+use Rattle.commit.proofs.Living.{all_answered, all_free, all_seated_live, each_set, either_way}
 use Rattle.commit.proofs.Recording.{begin_live, epoch_next, log_with}
 
 -- what holds of the commits between two events
@@ -81,9 +83,11 @@ epoch_decided core session t (Refused refusal) h live reads answered = record { 
 
 epoch_after : (core : CoreState) (session : List ℕ) (event : Event) (txn : Option OpenTransaction) (answer : Answer) → AreEpoch core → HoldsOf (IsLive core) txn → HoldsOf ReadsOnly txn → IsReply core session event txn answer
     → AreEpoch (core_after core session event txn answer)
-epoch_after core session Begin None answer h live reads reply = record { epoch = h.epoch; within = h.within }
+epoch_after core session Begin None answer h live reads reply =
+    either_way AreEpoch (has_begin_number core.live) (with_begun false core) core (record { epoch = h.epoch; within = h.within }) h
 epoch_after core session Begin (Some t) answer h live reads reply = h
-epoch_after core session BeginReadOnly None answer h live reads reply = record { epoch = h.epoch; within = h.within }
+epoch_after core session BeginReadOnly None answer h live reads reply =
+    either_way AreEpoch (has_begin_number core.live) (with_begun true core) core (record { epoch = h.epoch; within = h.within }) h
 epoch_after core session BeginReadOnly (Some t) answer h live reads reply = h
 epoch_after core session (Run statement) txn answer h live reads reply = h
 epoch_after core session Commit None answer h live reads reply = h
@@ -96,11 +100,17 @@ live_with : (core : CoreState) (statement : Statement) (txn : Option OpenTransac
 live_with core statement None live = tt
 live_with core statement (Some t) live = record { held = live.held; declared_is = live.declared_is; within = live.within; start_is = live.start_is }
 
+-- a transaction that has just begun is live, and there is none where it has not
+begun_or_not : (core : CoreState) → IsLog (log_of core) → (read_only : Bool) (room : Bool)
+    → HoldsOf (IsLive (cond room (with_begun read_only core) core)) (cond room (Some (transaction_at_begin core.live.begun (length core.records) read_only (newest_tables core))) None)
+begun_or_not core accepted read_only true = begin_live core accepted read_only
+begun_or_not core accepted read_only false = tt
+
 own_live : (core : CoreState) (session : List ℕ) (event : Event) (txn : Option OpenTransaction) (answer : Answer) → AreEpoch core → HoldsOf (IsLive core) txn
     → HoldsOf (IsLive (core_after core session event txn answer)) (txn_after core event txn)
-own_live core session Begin None answer h live = begin_live core h.epoch.accepted false
+own_live core session Begin None answer h live = begun_or_not core h.epoch.accepted false (has_begin_number core.live)
 own_live core session Begin (Some t) answer h live = live
-own_live core session BeginReadOnly None answer h live = begin_live core h.epoch.accepted true
+own_live core session BeginReadOnly None answer h live = begun_or_not core h.epoch.accepted true (has_begin_number core.live)
 own_live core session BeginReadOnly (Some t) answer h live = live
 own_live core session (Run statement) txn answer h live = live_with core statement txn live
 own_live core session Commit None answer h live = tt
@@ -114,10 +124,15 @@ reads_only_with t statement reads only =
     one_more t.trace (resolution_of t.declared t.read_only statement) (reads only)
     (subst (λ b. is_read_only (resolution_of t.declared b statement) ≡ true) (sym only) (resolved_reads t.declared statement))
 
+-- and one that has just begun has run none
+reads_only_begun : (core : CoreState) (read_only room : Bool) → HoldsOf ReadsOnly (cond room (Some (transaction_at_begin core.live.begun (length core.records) read_only (newest_tables core))) None)
+reads_only_begun core read_only true = λ only. refl
+reads_only_begun core read_only false = tt
+
 own_reads_only : (core : CoreState) (event : Event) (txn : Option OpenTransaction) → HoldsOf ReadsOnly txn → HoldsOf ReadsOnly (txn_after core event txn)
-own_reads_only core Begin None reads = λ no. refl
+own_reads_only core Begin None reads = reads_only_begun core false (has_begin_number core.live)
 own_reads_only core Begin (Some t) reads = reads
-own_reads_only core BeginReadOnly None reads = λ only. refl
+own_reads_only core BeginReadOnly None reads = reads_only_begun core true (has_begin_number core.live)
 own_reads_only core BeginReadOnly (Some t) reads = reads
 own_reads_only core (Run statement) None reads = tt
 own_reads_only core (Run statement) (Some t) reads = reads_only_with t statement reads
@@ -202,9 +217,9 @@ loaded_decided core session t RolledBack = refl
 loaded_decided core session t (Refused refusal) = refl
 
 loaded_after : (core : CoreState) (session : List ℕ) (event : Event) (txn : Option OpenTransaction) (answer : Answer) → loaded_of (core_after core session event txn answer) ≡ loaded_of core
-loaded_after core session Begin None answer = refl
+loaded_after core session Begin None answer = either_way (λ (c : CoreState). loaded_of c ≡ loaded_of core) (has_begin_number core.live) (with_begun false core) core refl refl
 loaded_after core session Begin (Some t) answer = refl
-loaded_after core session BeginReadOnly None answer = refl
+loaded_after core session BeginReadOnly None answer = either_way (λ (c : CoreState). loaded_of c ≡ loaded_of core) (has_begin_number core.live) (with_begun true core) core refl refl
 loaded_after core session BeginReadOnly (Some t) answer = refl
 loaded_after core session (Run statement) txn answer = refl
 loaded_after core session Commit None answer = refl

@@ -9,6 +9,7 @@ use Rattle.std.proofs.lemmas.List.{length-append, length-set, take-append-le}
 use Rattle.std.proofs.lemmas.Option.{same_Some, slice_get_within}
 use Rattle.std.proofs.lemmas.Slice.Eq.{bytes_eq-Decides}
 use Rattle.value.specs.declared.refusals.Refusal.{Refusal}
+use Rattle.value.specs.declared.refusals.Refusal.TheVariants.{EpochFull}
 use Rattle.syntax.specs.declared.statements.ScriptLine.{ScriptLine}
 use Rattle.syntax.specs.declared.statements.Event.{Event}
 use Rattle.syntax.specs.declared.statements.Event.TheVariants.{Begin, BeginReadOnly, Commit, Rollback, Run}
@@ -20,17 +21,18 @@ use Rattle.alone.specs.declared.statements.ResolvedStatement.{ResolvedStatement}
 use Rattle.alone.specs.Alone.{Outcome, IsSound, transaction}
 use Rattle.alone.specs.Resolve.{resolution_of}
 use Rattle.alone.proofs.Lists.{each_at}
+use Rattle.conflict.specs.Live.{has_begin_number}
 use Rattle.delta.specs.Views.{ViewState}
 use Rattle.alone.specs.declared.records.Record.{Record}
 use Rattle.alone.specs.Epoch.{outcome_on_snapshot}
 use Rattle.alone.proofs.Ranks.{clean}
-use Rattle.txn.specs.Transactions.{OpenTransaction, outcome_of, run_of, step_of, with_statement}
+use Rattle.txn.specs.Transactions.{OpenTransaction, outcome_of, run_of, step_of, transaction_at_begin, with_statement}
 use Rattle.commit.specs.declared.seats.Seat.{Seat}
-use Rattle.commit.specs.Cores.{CoreState, IsLive, core_after_commit, log_of, record_of}
+use Rattle.commit.specs.Cores.{CoreState, IsLive, core_after_commit, log_of, newest_tables, record_of, with_begun}
 use Rattle.commit.specs.Events.{EngineState, IsAnswered, IsAnsweredAt, IsCommitted, IsReply, after, after_at, answer_of, core_after, decided_core, found_no_memory, seat_of, txn_after, txn_of}
 use Rattle.commit.specs.Runs.{AreAnswers, beginning, led_to}
 use Rattle.commit.specs.Told.{Replies, WasTold, WereToldAlone, replies_after, replies_at, replies_by, replies_to, replies_with, reply_in}
-use Rattle.commit.proofs.Living.{all_free, set_elsewhere, set_there, tables_stay}
+use Rattle.commit.proofs.Living.{all_free, either_way, set_elsewhere, set_there, tables_stay}
 use Rattle.commit.proofs.Recording.{below, log_with, outcome_is}
 use Rattle.commit.proofs.Running.{IsRunning, accepts, has_seat, left_by, running_after, running_first}
 
@@ -108,14 +110,17 @@ told_as (Err refusal) known = ap (λ b. cond b [] (Err refusal ∷ [])) known
 
 -- what the transaction that is open then was told is what it answers
 module _ (joined : Joined) (core : CoreState) (session : List ℕ) (answer : Answer) (replies : Replies) where
+  told_begun : (read_only : Bool) (t : OpenTransaction) (room : Bool) → answer ≡ cond room (Begun (length core.records)) (Refused EpochFull)
+      → cond room (Some (transaction_at_begin core.live.begun (length core.records) read_only (newest_tables core))) None ≡ Some t → replies_at answer replies ≡ (run_of t).replies
+  told_begun read_only t true reply is_open = ap (λ a. replies_at a replies) reply ∙ ap (λ u. (run_of u).replies) (same_Some _ t is_open)
+  told_begun read_only t false reply is_open = let no : ⊥ = cc in absurd no
+
   told_open : (event : Event) (txn : Option OpenTransaction) (t : OpenTransaction) → ((u : OpenTransaction) → txn ≡ Some u → replies ≡ (run_of u).replies)
       → found_no_memory answer ≡ false → IsReply core session event txn answer → txn_after core event txn ≡ Some t → replies_with event answer replies ≡ (run_of t).replies
-  told_open Begin None t before known reply is_open =
-      ap (λ a. replies_at a replies) reply ∙ ap (λ u. (run_of u).replies) (same_Some _ t is_open)
+  told_open Begin None t before known reply is_open = told_begun false t (has_begin_number core.live) reply is_open
   told_open Begin (Some u) t before known reply is_open =
       ap (λ a. replies_at a replies) reply ∙ before u refl ∙ ap (λ u. (run_of u).replies) (same_Some u t is_open)
-  told_open BeginReadOnly None t before known reply is_open =
-      ap (λ a. replies_at a replies) reply ∙ ap (λ u. (run_of u).replies) (same_Some _ t is_open)
+  told_open BeginReadOnly None t before known reply is_open = told_begun true t (has_begin_number core.live) reply is_open
   told_open BeginReadOnly (Some u) t before known reply is_open =
       ap (λ a. replies_at a replies) reply ∙ before u refl ∙ ap (λ u. (run_of u).replies) (same_Some u t is_open)
   told_open (Run statement) None t before known reply is_open = let no : ⊥ = cc in absurd no
@@ -204,9 +209,11 @@ module _ (joined : Joined) (now : EngineState) (lines : List ScriptLine) (answer
 
     alone_after : (event : Event) (txn : Option OpenTransaction) → line.event ≡ event → txn_of (slice_get now.seats place) ≡ txn → IsReply now.core line.session event txn answer
         → WereToldAlone (core_after now.core line.session event txn answer) (lines ++ line ∷ []) (answers ++ answer ∷ [])
-    alone_after Begin None is there reply = alone_still
+    alone_after Begin None is there reply =
+        either_way (λ (c : CoreState). WereToldAlone c (lines ++ line ∷ []) (answers ++ answer ∷ [])) (has_begin_number now.core.live) (with_begun false now.core) now.core alone_still alone_still
     alone_after Begin (Some t) is there reply = alone_still
-    alone_after BeginReadOnly None is there reply = alone_still
+    alone_after BeginReadOnly None is there reply =
+        either_way (λ (c : CoreState). WereToldAlone c (lines ++ line ∷ []) (answers ++ answer ∷ [])) (has_begin_number now.core.live) (with_begun true now.core) now.core alone_still alone_still
     alone_after BeginReadOnly (Some t) is there reply = alone_still
     alone_after (Run statement) txn is there reply = alone_still
     alone_after Commit None is there reply = alone_still

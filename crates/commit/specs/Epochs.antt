@@ -1,11 +1,13 @@
 -- Epochs, one after the other: each begins with the tables that the one before left, under other assertions.
-use Rattle.std.specs.Prelude.{◌≡◌, ◌≢◌, ◌≤◌, ◌++◌, ℕ, Bool, true, not, is_some, List, [], ◌∷◌, length, slice_get, take, Option, Some, None, Result, Ok, Err, ⊤}
+use Rattle.std.specs.Prelude.{◌≡◌, ◌≢◌, ◌≤◌, ◌++◌, ℕ, Bool, true, not, is_some, List, [], ◌∷◌, length, map, slice_get, take, Option, Some, None, Result, Ok, Err, ⊤}
 use Rattle.std.specs.List.{list_any}
+use Rattle.std.specs.Option.{option_map}
 use Rattle.value.specs.declared.refusals.Refusal.{Refusal}
 use Rattle.value.specs.declared.refusals.Refusal.TheVariants.{NoMemory, TransactionOpen}
 use Rattle.value.specs.Results.{and_then, if_holds}
 use Rattle.meaning.specs.Laws.{Pairs}
 use Rattle.delta.specs.Views.{ViewState}
+use Rattle.txn.specs.Transactions.{truths_on}
 use Rattle.definitions.specs.declared.redeclaration.NewAssertion.{NewAssertion}
 use Rattle.definitions.specs.Redeclaration.{redeclaration}
 use Rattle.commit.specs.declared.engine.Outcome.{Outcome}
@@ -17,6 +19,7 @@ use Rattle.commit.specs.Events.{EngineState}
 use Rattle.commit.specs.Fitting.{AllFit}
 use Rattle.commit.specs.Runs.{AreAnswers, beginning, empty_core, led_to}
 use Rattle.commit.specs.Told.{WereToldAlone}
+use Rattle.commit.specs.Verdicts.{live_truths}
 
 -- the tables with which the next epoch begins, if every assertion is satisfied on them
 abbrev pub next_start : (dropped : List (List ℕ)) → (created : List NewAssertion) → ViewState → Result ViewState Refusal
@@ -52,6 +55,8 @@ pub record IsOutcome (limit : ℕ) (before : ViewState) (epoch : Epoch) (outcome
       (take (length outcome.answers.items) epoch.lines) outcome.answers.items
   pub left : outcome.engine ≡ led_to (beginning limit start epoch.lines)
       (take (length outcome.answers.items) epoch.lines) outcome.answers.items
+  pub verdicts : outcome.committed.items ≡ truths_on (newest_tables outcome.engine.core)
+  pub live : map (option_map (λ truths. truths.items)) outcome.live.items ≡ map live_truths outcome.engine.seats
   pub serializable : IsSerializable outcome.engine.core
   pub told : WereToldAlone outcome.engine.core (take (length outcome.answers.items) epoch.lines)
       outcome.answers.items
@@ -62,16 +67,22 @@ abbrev pub tables_left : ViewState → List Outcome → ViewState
 tables_left before [] = before
 tables_left before (outcome ∷ rest) = tables_left (newest_tables outcome.engine.core) rest
 
--- each epoch begins after the tables that the one before left
+-- each event of an epoch was answered
+abbrev pub IsWhole : Epoch → Outcome → Type 0
+IsWhole epoch outcome = length outcome.answers.items ≡ length epoch.lines
+
+-- an epoch with these behind it: none, or it was answered whole
+abbrev pub IsWholeBefore : Epoch → Outcome → (rest : List Outcome) → Type 0
+IsWholeBefore epoch outcome [] = ⊤
+IsWholeBefore epoch outcome (next ∷ rest) = IsWhole epoch outcome
+
+-- each epoch begins after the tables that the one before left, which was answered whole
 abbrev pub AreOutcomes : (limit : ℕ) → ViewState → List Epoch → List Outcome → Type 0
 AreOutcomes limit before epochs [] = ⊤
 AreOutcomes limit before [] (outcome ∷ rest) = ⊥
 AreOutcomes limit before (epoch ∷ epochs) (outcome ∷ rest) =
-    IsOutcome limit before epoch outcome × AreOutcomes limit (newest_tables outcome.engine.core) epochs rest
-
--- each event of an epoch was answered
-abbrev pub IsWhole : Epoch → Outcome → Type 0
-IsWhole epoch outcome = length outcome.answers.items ≡ length epoch.lines
+    IsOutcome limit before epoch outcome × IsWholeBefore epoch outcome rest
+    × AreOutcomes limit (newest_tables outcome.engine.core) epochs rest
 
 -- an epoch more has passed, each of whose events was answered or not
 pub record IsOneMore (limit : ℕ) (before : ViewState) (epoch : Epoch) (outcomes more : List Outcome) (whole : Bool) :
@@ -81,10 +92,11 @@ pub record IsOneMore (limit : ℕ) (before : ViewState) (epoch : Epoch) (outcome
   pub more_is : more ≡ outcomes ++ outcome ∷ []
   pub whole_is : whole ≡ true → IsWhole epoch outcome
 
--- the next epoch does not begin, which is said
+-- the next epoch does not begin, which is said; those before it were answered whole
 pub record IsRefusedNext (before : ViewState) (epochs : List Epoch) (outcomes : List Outcome) (refusal : Refusal) :
     Type 0 where
   pub epoch : Epoch
+  pub whole : Pairs IsWhole (take (length outcomes) epochs) outcomes
   pub next : slice_get epochs (length outcomes) ≡ Some epoch
   pub refused : next_start epoch.dropped.items epoch.created.items (tables_left before outcomes) ≡ Err refusal
 

@@ -1,9 +1,9 @@
 -- What each event of a session is answered, and what it leaves.
-use Rattle.std.specs.Prelude.{◌≡◌, ◌⊎◌, ℕ, Bool, true, false, List, length, slice_get, slice_set, Option, Some, None, is_none, is_some, Result, Ok, Err, if◌then◌else◌}
+use Rattle.std.specs.Prelude.{◌≡◌, ◌⊎◌, ℕ, Bool, true, false, List, length, remove, slice_get, slice_set, Option, Some, None, is_none, is_some, Result, Ok, Err, if◌then◌else◌}
 use Rattle.std.specs.List.{position}
 use Rattle.std.specs.Str.{bytes_eq}
 use Rattle.value.specs.declared.refusals.Refusal.{Refusal}
-use Rattle.value.specs.declared.refusals.Refusal.TheVariants.{NoMemory, NoTransaction, TooManySessions, TransactionOpen}
+use Rattle.value.specs.declared.refusals.Refusal.TheVariants.{EpochFull, NoMemory, NoTransaction, TooManySessions, TransactionOpen}
 use Rattle.syntax.specs.declared.statements.Statement.{Statement}
 use Rattle.syntax.specs.declared.statements.ScriptLine.{ScriptLine}
 use Rattle.syntax.specs.declared.statements.Event.{Event}
@@ -12,7 +12,7 @@ use Rattle.alone.specs.declared.answers.Answer.{Answer}
 use Rattle.alone.specs.declared.answers.Answer.TheVariants.{Begun, Committed, Refused, Replied, RolledBack}
 use Rattle.alone.specs.declared.answers.Reply.{Reply}
 use Rattle.alone.specs.Resolve.{resolution_of}
-use Rattle.conflict.specs.Live.{AreBelow}
+use Rattle.conflict.specs.Live.{AreBelow, has_begin_number}
 use Rattle.txn.specs.Transactions.{OpenTransaction, transaction_at_begin, step_of, with_statement}
 use Rattle.commit.specs.declared.seats.Seat.{Seat}
 use Rattle.commit.specs.Cores.{CoreState, IsCommitAnswer, IsLive, core_after_commit, core_after_end, newest_tables, refused_to, with_begun}
@@ -56,9 +56,9 @@ pub record IsCommitted (core : CoreState) (session : List ℕ) (t : OpenTransact
   pub decided : IsCommitAnswer core session t result
   pub is : answer ≡ commit_answer result
 
--- a transaction begins on the newest tables
+-- a transaction begins on the newest tables, while there is a begin number for it
 abbrev pub begin_answer : CoreState → Option OpenTransaction → Answer
-begin_answer core None = Begun (length core.records)
+begin_answer core None = if has_begin_number core.live then Begun (length core.records) else Refused EpochFull
 begin_answer core (Some t) = Refused TransactionOpen
 
 -- a statement is answered as alone in the transaction, whose trace then holds it
@@ -88,7 +88,9 @@ IsReply core session Rollback txn answer = answer ≡ rollback_answer txn
 -- the transaction that is open then, if one is
 abbrev pub txn_after_begin : CoreState → (read_only : Bool) → Option OpenTransaction → Option OpenTransaction
 txn_after_begin core read_only None =
-    Some (transaction_at_begin core.live.begun (length core.records) read_only (newest_tables core))
+    if has_begin_number core.live
+    then Some (transaction_at_begin core.live.begun (length core.records) read_only (newest_tables core))
+    else None
 txn_after_begin core read_only (Some t) = Some t
 
 -- the transaction that is open after an event, if one is
@@ -107,7 +109,7 @@ decided_core core session t answer = core
 
 -- the commits after BEGIN: where no transaction was open, one more is live
 abbrev pub core_after_begin : CoreState → (read_only : Bool) → Option OpenTransaction → CoreState
-core_after_begin core read_only None = with_begun read_only core
+core_after_begin core read_only None = if has_begin_number core.live then with_begun read_only core else core
 core_after_begin core read_only (Some t) = core
 
 -- the commits after an event
@@ -128,6 +130,23 @@ seats_set seats place txn (Some seat) = slice_set seats place (record seat { txn
 -- the seats with this transaction, or none, in the one at a place
 abbrev pub seats_with : List Seat → ℕ → Option OpenTransaction → List Seat
 seats_with seats place txn = seats_set seats place txn (slice_get seats place)
+
+-- the commits after a session has left: its open transaction, if it has one, is rolled back
+abbrev pub core_without : CoreState → Option OpenTransaction → CoreState
+core_without core None = core
+core_without core (Some t) = core_after_end core t
+
+-- what is left where the session in a seat leaves
+abbrev pub without_seat : EngineState → Option ℕ → EngineState
+without_seat now None = now
+without_seat now (Some place) = record {
+  core = core_without now.core (txn_of (slice_get now.seats place));
+  seats = remove now.seats place;
+}
+
+-- what is left where a session leaves; its seat is free then for another
+abbrev pub without_session : EngineState → List ℕ → EngineState
+without_session now session = without_seat now (seat_of now.seats session)
 
 -- what an event of the session in a seat is answered; a session without a seat is refused
 abbrev pub IsAnsweredAt : EngineState → List ℕ → Event → Option ℕ → Answer → Type 0

@@ -8,3 +8,4 @@ pub mod Told
 pub mod Fitting
 pub mod Safe
 pub mod Epochs
+pub mod Verdicts

@@ -1,11 +1,11 @@
 //! The committed transactions.
 
-ghost use Rattle.std.specs.Prelude.{◌≡◌, ◌↔◌, ◌≢◌, ◌≤◌, ◌<◌, ◌+◌, ◌++◌, ◌∷◌, [], ℕ, List, length, true, false, vec_capacity, vec_len, Contains, IfOk, IfErr, IfSome, IfNone, OnErr, OnOk, Ok, Err, None, Some};
-ghost use Rattle.value.specs.declared.refusals.Refusal.TheVariants.{NoMemory};
+ghost use Rattle.std.specs.Prelude.{◌≡◌, ◌↔◌, ◌≢◌, ◌≤◌, ◌<◌, ◌+◌, ◌++◌, ◌∷◌, [], ℕ, List, length, map, true, false, vec_capacity, vec_len, Contains, IfOk, IfErr, IfSome, IfNone, OnErr, OnOk, Ok, Err, None, Some};
+ghost use Rattle.value.specs.declared.refusals.Refusal.TheVariants.{EpochFull, NoMemory};
 ghost use Rattle.alone.specs.Modes.{assertion_of};
 ghost use Rattle.siread.specs.Locks.{AreBelow, IsCount, Reads, reads_above, readers_at};
 ghost use Rattle.conflict.specs.Held.{is_held};
-ghost use Rattle.conflict.specs.Live.{least_writing, may_another_ask, without};
+ghost use Rattle.conflict.specs.Live.{has_begin_number, least_writing, may_another_ask, without};
 ghost use Rattle.alone.specs.Alone.{IsSound};
 ghost use Rattle.alone.specs.Commits.{HasNoWriteConflict, IsLog};
 ghost use Rattle.alone.specs.Order.{least_out};
@@ -122,27 +122,41 @@ impl Core {
         })
     }
 
-    /// A transaction begins on the newest tables. Where memory runs out, nothing has changed.
-    pub fn begin(&mut self) -> Result<Txn, AllocError>
+    /// A transaction begins on the newest tables.
+    ///
+    /// # Errors
+    ///
+    /// [`Refusal::EpochFull`] exactly where 2^64 - 1 transactions have begun in the epoch, since each has a number of
+    /// its own; or [`Refusal::NoMemory`]. Nothing has changed then.
+    pub fn begin(&mut self) -> Result<Txn, Refusal>
         requires idle { self.old.prepared ≡ None }
         ensures begun { IfOk result (λ txn.
             txn ≡ transaction_at_begin self.old.live.begun (length self.old.records) false (newest_tables self.old)) }
         ensures live { IfOk result (λ txn. IsLive self.new txn) }
         ensures after { OnOk result (self.new ≡ with_begun false self.old) }
+        ensures room { OnOk result (has_begin_number self.old.live ≡ true) }
+        ensures refused { IfErr result (λ refusal. refusal ≢ NoMemory
+            → (refusal ≡ EpochFull) × (has_begin_number self.old.live ≡ false)) }
         ensures same { OnErr result (self.new ≡ self.old) }
     {
         self.begin_as(false)
     }
 
     /// A transaction that is read only begins on the newest tables: its INSERT, UPDATE and DELETE are refused, and it
-    /// may stand earlier in the serial order, so that fewer commits are refused for it. Where memory runs out,
-    /// nothing has changed.
-    pub fn begin_read_only(&mut self) -> Result<Txn, AllocError>
+    /// may stand earlier in the serial order, so that fewer commits are refused for it.
+    ///
+    /// # Errors
+    ///
+    /// Those of [`Core::begin`].
+    pub fn begin_read_only(&mut self) -> Result<Txn, Refusal>
         requires idle { self.old.prepared ≡ None }
         ensures begun { IfOk result (λ txn.
             txn ≡ transaction_at_begin self.old.live.begun (length self.old.records) true (newest_tables self.old)) }
         ensures live { IfOk result (λ txn. IsLive self.new txn) }
         ensures after { OnOk result (self.new ≡ with_begun true self.old) }
+        ensures room { OnOk result (has_begin_number self.old.live ≡ true) }
+        ensures refused { IfErr result (λ refusal. refusal ≢ NoMemory
+            → (refusal ≡ EpochFull) × (has_begin_number self.old.live ≡ false)) }
         ensures same { OnErr result (self.new ≡ self.old) }
     {
         self.begin_as(true)
@@ -321,6 +335,14 @@ impl Core {
         self.refused.as_slice()
     }
 
+    /// Before which number each commit stands in the serial order, unless it is read only: that of the least commit to
+    /// which it conflicts, or its own. It never changes, whatever is committed later.
+    pub fn places(&self) -> &[u64]
+        ensures { result.now ≡ map (least_out (log_of self.now)) self.now.records }
+    {
+        self.places.as_slice()
+    }
+
     /// The numbers of the commits in their serial order.
     pub fn serial_order(&self) -> &[u64]
         ensures { result.now ≡ order_of self.now }
@@ -390,13 +412,16 @@ impl Core {
 impl Core {
     /// A transaction, read only or not, begins on the newest tables. The transactions that have committed hold nothing
     /// of these any more, so that they can settle.
-    pub(crate) fn begin_as(&mut self, read_only: bool) -> Result<Txn, AllocError>
+    pub(crate) fn begin_as(&mut self, read_only: bool) -> Result<Txn, Refusal>
         requires idle { self.old.prepared ≡ None }
         ensures begun { IfOk result (λ txn.
             txn ≡ transaction_at_begin self.old.live.begun (length self.old.records) read_only
             (newest_tables self.old)) }
         ensures live { IfOk result (λ txn. IsLive self.new txn) }
         ensures after { OnOk result (self.new ≡ with_begun read_only self.old) }
+        ensures room { OnOk result (has_begin_number self.old.live ≡ true) }
+        ensures refused { IfErr result (λ refusal. refusal ≢ NoMemory
+            → (refusal ≡ EpochFull) × (has_begin_number self.old.live ≡ false)) }
         ensures same { OnErr result (self.new ≡ self.old) }
     {
         self.settle();
@@ -409,9 +434,9 @@ impl Core {
             read_only,
             &self.newest,
         )?;
-        if let Err(_) = self.live.begin(snapshot, read_only) {
+        if let Err(refusal) = self.live.begin(snapshot, read_only) {
             drop(txn.abandon());
-            return Err(AllocError);
+            return Err(refusal);
         }
         Ok(txn)
     }

@@ -1,25 +1,30 @@
 //! Events of many sessions, one after the other.
 
-ghost use Rattle.std.specs.Prelude.{◌≡◌, ◌≤◌, ◌≢◌, [], true, false, is_some, length, nat_le, take, IfOk, IfErr, IfSome, OnErr, OnOk, Err};
+ghost use Rattle.std.specs.Prelude.{◌≡◌, ◌≤◌, ◌≢◌, [], true, false, is_some, length, map, nat_le, take, IfOk, IfErr, IfSome, OnErr, OnOk, Err};
 ghost use Rattle.value.specs.declared.refusals.Refusal.TheVariants.{NoMemory};
 ghost use Rattle.alone.specs.Alone.{IsSound};
-ghost use Rattle.commit.specs.Cores.{IsSerializable};
+ghost use Rattle.commit.specs.Cores.{IsSerializable, newest_tables};
 ghost use Rattle.commit.specs.Epochs.{IsNextEpoch, is_any_open, next_start_of};
-ghost use Rattle.commit.specs.Events.{IsAnswered, after, as_answer};
+ghost use Rattle.commit.specs.Events.{IsAnswered, after, as_answer, without_session};
 ghost use Rattle.commit.specs.Fitting.{AllFit};
 ghost use Rattle.commit.specs.Runs.{AreAnswers, IsNext, beginning, led_to, seats_with, seats_with_all};
 ghost use Rattle.commit.specs.Told.{WereToldAlone};
+ghost use Rattle.commit.specs.Verdicts.{live_truths};
+ghost use Rattle.std.specs.Option.{option_map};
+ghost use Rattle.txn.specs.Transactions.{truths_on};
 
 use crate::cores::Core;
 use crate::laws::answers_lead_to_a_serial_order;
-use crate::seats::{Seat, answer_event, find_seat, seat_few, seat_session};
+use crate::seats::{Seat, answer_event, find_seat, roll_back, seat_few, seat_session};
+use crate::verdicts::list_live_truths;
 use alone::Answer;
 use definitions::NewAssertion;
 use delta::View;
 use std::alloc::{AllocError, Global};
 use std::marker::Model;
 use syntax::ScriptLine;
-use value::{Refusal, Text};
+use txn::list_truths;
+use value::{Refusal, Text, Truth};
 
 /// What stands between two events: the committed transactions, and the sessions with the open ones.
 #[derive(Drop)]
@@ -43,11 +48,16 @@ impl Model for Engine {
     ghost invariant = { λ e. AreLive e.core e.seats.items };
 }
 
-/// The answers to events, and what they leave.
+/// The answers to events, what they leave, and the truths that are maintained on the tables that there are then, each
+/// of an assertion, in the order of their creation.
 #[derive(Drop)]
 pub struct Outcome {
     pub answers: Vec<Answer>,
     pub engine: Engine,
+    /// On the committed tables.
+    pub committed: Vec<Truth>,
+    /// On the own view of each seat's open transaction; none where no transaction is open.
+    pub live: Vec<Option<Vec<Truth>>>,
 }
 
 impl Engine {
@@ -103,6 +113,18 @@ impl Engine {
         ensures same { OnErr result (self.new ≡ self.old) }
     {
         seat_session(&mut self.seats, session)
+    }
+
+    /// Takes the seat of a session away, if it has one, and rolls its open transaction back. The seat is free for
+    /// another session then. It takes no memory.
+    pub fn unseat(&mut self, session: &Text)
+        ensures { self.new ≡ without_session self.old session.now }
+    {
+        let Some(place) = find_seat(self.seats.as_slice(), session) else {
+            return;
+        };
+        drop(roll_back(&mut self.core, &mut self.seats[place]));
+        drop(self.seats.remove(place));
     }
 
     /// Answers an event. Where no memory is found, that is the answer, and nothing has changed. That can come only to
@@ -161,7 +183,8 @@ impl Engine {
 
 /// Answers events of any sessions, one after the other, from tables on which no assertion is false, with at most so
 /// many commits, from none to 4,294,967,295. Should the answers themselves find no memory, the run ends there, and what
-/// is answered is the beginning of the list. An error is that memory ran out before the first event.
+/// is answered is the beginning of the list. An error is that memory ran out before the first event, or behind the last
+/// for the truths.
 pub fn run(
     alloc: Global,
     limit: u64,
@@ -178,6 +201,10 @@ pub fn run(
         outcome.engine
         ≡ led_to (beginning limit loaded lines.now) (take (length outcome.answers.items) lines.now)
         outcome.answers.items) }
+    ensures verdicts { IfOk result (λ outcome.
+        outcome.committed.items ≡ truths_on (newest_tables outcome.engine.core)) }
+    ensures live { IfOk result (λ outcome.
+        map (option_map (λ truths. truths.items)) outcome.live.items ≡ map live_truths outcome.engine.seats) }
     ensures serializable { IfOk result (λ outcome. IsSerializable outcome.engine.core) }
     ensures told { IfOk result (λ outcome.
         WereToldAlone outcome.engine.core (take (length outcome.answers.items) lines.now) outcome.answers.items) }
@@ -189,7 +216,14 @@ pub fn run(
     let mut answers = Vec::new(alloc);
     answer_all(&mut engine, lines, &mut answers);
     answers_lead_to_a_serial_order();
-    Ok(Outcome { answers, engine })
+    let committed = list_truths(alloc, engine.core.newest())?;
+    let live = list_live_truths(alloc, engine.seats.as_slice())?;
+    Ok(Outcome {
+        answers,
+        engine,
+        committed,
+        live,
+    })
 }
 
 /// Answers events up to the first for whose answer there is no room.

@@ -1,8 +1,10 @@
 //! What the definitions of this crate entail.
 
-ghost use Rattle.std.specs.Prelude.{◌≡◌, ◌++◌, ◌∷◌, [], ℕ, Bool, true, List, Result};
+ghost use Rattle.std.specs.Prelude.{◌≡◌, ◌++◌, ◌∷◌, [], ℕ, Bool, true, List, Result, IsPermutation};
 ghost use Rattle.value.specs.declared.refusals.Refusal.{Refusal as AnyRefusal};
 ghost use Rattle.alone.specs.Commits.{IsLog};
+ghost use Rattle.alone.specs.Order.{IsFixed, IsKept, IsPutIn, IsSerial, StandBySnapshot, serial_order};
+ghost use Rattle.alone.specs.declared.records.Record.{Record};
 ghost use Rattle.alone.specs.declared.statements.ResolvedStatement.{ResolvedStatement};
 ghost use Rattle.delta.specs.Views.{ViewState};
 ghost use Rattle.txn.specs.Transactions.{OpenTransaction, transaction_at_begin, outcome_of, run_of, step_of, with_statement};
@@ -13,6 +15,21 @@ ghost use Rattle.commit.specs.Safe.{IsNotForOthers, IsSafeReader};
 ghost use Rattle.commit.specs.Told.{WereToldAlone};
 
 use alone::{commits_have_an_order, replay_answers_again, runs_are_joined};
+
+/// The order law, of any list of commits each of which was accepted over those before it: in its serial order each
+/// stands once, after all that its snapshot holds, after the earlier writers of its rows, and before all to which it
+/// conflicts. One that is read only stands right behind the number of its snapshot. One commit more leaves the others
+/// as they stood, and is put in by its rank.
+pub fn order()
+    ensures once { (log : List Record) → IsLog log → IsPermutation log (serial_order log) }
+    ensures serial { (log : List Record) → IsLog log → IsSerial log (serial_order log) }
+    ensures readers { (log : List Record) → IsLog log → StandBySnapshot log (serial_order log) }
+    ensures kept { (commit : Record) (earlier : List Record) → IsLog (commit ∷ earlier) → IsKept commit earlier }
+    ensures fixed { (commit : Record) (earlier : List Record) → IsLog (commit ∷ earlier) → IsFixed commit earlier }
+    ensures put_in { (commit : Record) (earlier : List Record) → IsLog (commit ∷ earlier) → IsPutIn commit earlier }
+{
+    commits_have_an_order();
+}
 
 /// The replies that a transaction's statements were given, one by one on its own view, are those of its trace run
 /// alone: none at its BEGIN, and one more with each statement. So what a record's trace answers on its snapshot is

@@ -18,13 +18,15 @@
 //! - A statement is answered as alone on the transaction's own view (`txn`), and its trace then holds it.
 //! - COMMIT ends the transaction, accepted or refused; ROLLBACK ends it, and nothing of it is kept.
 //! - An event that finds no memory is answered so, and nothing has changed.
+//! - A session that leaves gives its seat back ([`Engine::unseat`]); its open transaction ends as by a ROLLBACK.
 //!
 //! [`run`] answers a list of events. Its contract is the headline of the whole: each answer is one that `specs/Events`
 //! allows after those before it; no committed tables make an assertion false; the serial order has each commit once;
 //! and the committed transactions, run alone in it, answer what they answered and leave the newest tables
-//! (`IsSerializable` in `specs/Cores`). What each of them was told, out of the list of events and answers, is what it
-//! answers alone (`specs/Told`). The law behind it speaks of the definitions alone
-//! ([`answers_lead_to_a_serial_order`]).
+//! (`IsSerializable` in `specs/Cores`). Each maintained verdict, on the committed tables and on each open transaction's
+//! own view, is its assertion evaluated from scratch (`specs/Verdicts`). What each committed transaction was told, out of
+//! the list of events and answers, is what it answers alone (`specs/Told`). The law behind it speaks of the definitions
+//! alone ([`answers_lead_to_a_serial_order`]).
 //!
 //! How it works. What a core keeps at hand (the newest tables, the least conflict out of each commit, the order) is
 //! what its records determine, and each record was accepted over those before it and recorded as it runs alone on
@@ -42,9 +44,10 @@ mod cores;
 mod decisions;
 mod engine;
 mod epochs;
-mod laws;
+pub mod laws;
 mod prepared;
 mod seats;
+mod verdicts;
 
 pub use admission::{admit, admit_taken, require_satisfied};
 pub use cores::{CommitFailure, Core};

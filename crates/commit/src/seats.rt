@@ -140,9 +140,14 @@ fn begin(core: &mut Core, seat: &mut Seat, read_only: bool) -> Result<Answer, Al
         return Ok(Answer::Refused(Refusal::TransactionOpen));
     }
     let snapshot = core.records().len() as u64;
-    let txn = core.begin_as(read_only)?;
-    set_txn(seat, Some(txn));
-    Ok(Answer::Begun(snapshot))
+    match core.begin_as(read_only) {
+        Ok(txn) => {
+            set_txn(seat, Some(txn));
+            Ok(Answer::Begun(snapshot))
+        }
+        Err(Refusal::NoMemory) => Err(AllocError),
+        Err(refusal) => Ok(Answer::Refused(refusal)),
+    }
 }
 
 /// A statement, in the open transaction.
@@ -188,7 +193,7 @@ fn commit(core: &mut Core, seat: &mut Seat, session: &Text) -> Result<Answer, Al
 }
 
 /// ROLLBACK: the open transaction is ended, and nothing of it kept.
-fn roll_back(core: &mut Core, seat: &mut Seat) -> Answer
+pub(crate) fn roll_back(core: &mut Core, seat: &mut Seat) -> Answer
     requires live { HoldsOf (IsLive core.old) seat.old.txn }
     requires idle { core.old.prepared ≡ None }
     ensures answered { result ≡ rollback_answer seat.old.txn }

@@ -12,6 +12,10 @@ pub record LiveState : Type 0 where
 abbrev pub none_live : LiveState
 none_live = record { begun = 0; snapshots = [] }
 
+-- there is a begin number for one more: they are numbers of 64 bits, and none is given twice
+abbrev pub has_begin_number : LiveState → Bool
+has_begin_number live = nat_lt live.begun 18446744073709551615
+
 -- one transaction more, by the next begin number
 abbrev pub with_begin : (snapshot : ℕ) → (read_only : Bool) → LiveState → LiveState
 with_begin snapshot read_only live = record {

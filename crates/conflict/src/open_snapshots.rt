@@ -1,11 +1,13 @@
 //! The snapshots of open transactions.
 
-ghost use Rattle.std.specs.Prelude.{◌≡◌, true, Contains, OnErr, OnOk};
+ghost use Rattle.std.specs.Prelude.{◌≡◌, ◌≢◌, false, true, Contains, IfErr, OnErr, OnOk};
+ghost use Rattle.value.specs.declared.refusals.Refusal.TheVariants.{EpochFull, NoMemory};
 ghost use Rattle.conflict.specs.Held.{is_held};
-ghost use Rattle.conflict.specs.Live.{least_with, least_writing, may_another_ask, none_live, with_begin, without, writers_hold};
+ghost use Rattle.conflict.specs.Live.{has_begin_number, least_with, least_writing, may_another_ask, none_live, with_begin, without, writers_hold};
 
-use std::alloc::{AllocError, Global};
+use std::alloc::Global;
 use std::marker::Model;
+use value::Refusal;
 
 /// An open transaction: its begin number, how many commits its snapshot holds, and whether it is read only.
 #[derive(Clone, Copy, Debug, PartialEq, Eq)]
@@ -54,14 +56,17 @@ impl Live {
     ///
     /// # Errors
     ///
-    /// Want of memory, also said where 2^64 - 1 transactions have begun. All is then as it was.
-    pub fn begin(&mut self, snapshot: u64, read_only: bool) -> Result<(), AllocError>
+    /// [`Refusal::EpochFull`] where 2^64 - 1 transactions have begun; or [`Refusal::NoMemory`]. All is then as it was.
+    pub fn begin(&mut self, snapshot: u64, read_only: bool) -> Result<(), Refusal>
         ensures begun { OnOk result (self.new ≡ with_begin snapshot read_only self.old) }
+        ensures room { OnOk result (has_begin_number self.old ≡ true) }
+        ensures refused { IfErr result (λ refusal. refusal ≢ NoMemory
+            → (refusal ≡ EpochFull) × (has_begin_number self.old ≡ false)) }
         ensures same { OnErr result (self.new ≡ self.old) }
     {
         let begin_number = self.begun;
         let Some(begun) = begin_number.checked_add(1) else {
-            return Err(AllocError);
+            return Err(Refusal::EpochFull);
         };
         self.snapshots.push(LiveSnapshot {
             begin_number,

@@ -6,8 +6,9 @@ use crate::happenings::add_event;
 use crate::stories::Story;
 use alone::Answer;
 use history::{Source, read_history};
-use replay::{ProgramFault, flush, write_all};
+use replay::ProgramFault;
 use std::alloc::{AllocError, Global};
+use std::io;
 use std::io::Write;
 use thiserror::Error;
 
@@ -20,6 +21,12 @@ pub enum ExplainFault {
     /// The script has no event of the number that was asked for, and so many events.
     #[error("the script has {0} events")]
     NoEvent(usize),
+}
+
+impl From<io::Error> for ExplainFault {
+    fn from(error: io::Error) -> ExplainFault {
+        ExplainFault::Run(ProgramFault::from(error))
+    }
 }
 
 /// Runs a script of any sessions on definitions, with at most so many commits, and writes why events were answered so:
@@ -76,7 +83,7 @@ fn explain_number<W: Write>(
         return Err(ExplainFault::NoEvent(count));
     }
     explain_one(alloc, story, (number - 1) as usize, out)?;
-    Ok(flush(out)?)
+    Ok(out.flush()?)
 }
 
 /// Explains each event that was refused.
@@ -93,9 +100,9 @@ fn explain_refused<W: Write>(
         }
     }
     if refused == 0 {
-        write_all(b"no event was refused\n", out)?;
+        out.write_all(b"no event was refused\n")?;
     }
-    Ok(flush(out)?)
+    Ok(out.flush()?)
 }
 
 /// Explains an event.
@@ -109,5 +116,5 @@ fn explain_one<W: Write>(
     if add_event(alloc, story, event, &mut text).is_err() {
         return Err(ExplainFault::Run(ProgramFault::Stopped));
     }
-    Ok(write_all(text.as_bytes(), out)?)
+    Ok(out.write_all(text.as_bytes())?)
 }

@@ -5,7 +5,7 @@ use crate::faults::add_refusal;
 use crate::stories::{MOST_LINES, Story, add_left_out, add_snapshot, number_of};
 use alone::Answer;
 use history::{End, Happening, Read, Transaction, add_bytes, add_change, add_key};
-use report::Report;
+use report::write_reply;
 use std::alloc::{AllocError, Global};
 use syntax::ScriptLine;
 use table::Change;
@@ -45,9 +45,12 @@ fn add_heading(
     write!(out, "event {number}, line {line}: ")?;
     story.events.add_piece(story.script, event, out)?;
     out.push_str("\n")?;
-    let mut report = Report::new(alloc);
-    report.add_answer(script_line, &happening.answer)?;
-    add_bytes(report.as_bytes(), out)
+    let mut line = Vec::new(alloc);
+    // (a list of bytes takes all bytes for which there is memory)
+    if write_reply(script_line, &happening.answer, &mut line).is_err() {
+        return Err(AllocError);
+    }
+    add_bytes(line.as_slice(), out)
 }
 
 /// Adds what an event that was not refused rests on.

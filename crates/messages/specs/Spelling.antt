@@ -1,5 +1,5 @@
 -- How numbers, texts, values and rows are spelled in bytes.
-use Rattle.std.specs.Prelude.{ℕ, ℤ, pos, negsuc, ◌-◌, List, [], ◌∷◌, ◌++◌, length}
+use Rattle.std.specs.Prelude.{◌<◌, ◌^◌, ℕ, ℤ, pos, negsuc, ◌-◌, List, [], ◌∷◌, ◌++◌, length, ⊤}
 use Rattle.std.specs.Int.{w64, to_le_bytes}
 use Rattle.value.specs.declared.values.Value.{Value}
 use Rattle.value.specs.declared.values.Value.TheVariants.{Null, Int, Text}
@@ -28,6 +28,13 @@ abbrev pub value : Value → List ℕ
 value Null = 0 ∷ []
 value (Int n) = 1 ∷ number (bits_of n)
 value (Text bytes) = 2 ∷ text bytes
+
+-- a value that these bytes can hold: a number of 64 bits with its sign, a text whose length is one of 64 bits
+abbrev pub IsSpelled : Value → Type 0
+IsSpelled Null = ⊤
+IsSpelled (Int (pos n)) = n < 2 ^ 63
+IsSpelled (Int (negsuc n)) = n < 2 ^ 63
+IsSpelled (Text bytes) = length bytes < 2 ^ 64
 
 -- a root: the value of a row's key or of a group, or the whole
 abbrev pub root : Root → List ℕ

@@ -15,6 +15,7 @@
 #![tactic(auto)]
 
 mod faults;
+mod laws;
 mod lines;
 mod names;
 mod operations;
@@ -26,6 +27,7 @@ mod responses;
 mod writing;
 
 pub use faults::FieldFault;
+pub use laws::what_is_spelled_is_read;
 pub use names::{is_name, read_name};
 pub use operations::{Operation, operation_of};
 pub use reading::{read_number, read_text, read_values};

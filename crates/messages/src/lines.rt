@@ -4,7 +4,7 @@ ghost use Rattle.std.specs.Prelude.{◌≡◌, IfOk};
 ghost use Rattle.messages.specs.Replies as spec;
 
 use crate::responses::{Response, Source};
-use report::Report;
+use report::{write_refusal, write_reply};
 use std::alloc::{AllocError, Global};
 
 /// The word for what was refused, in front of the line of its refusal.
@@ -20,17 +20,25 @@ fn source_name(source: Source) -> &'static str
 }
 
 /// The line of an answer or of a refusal; empty for any other response.
-pub fn line_of(alloc: Global, response: &Response) -> Result<Report, AllocError>
-    ensures { IfOk result (λ line. line ≡ spec.line_of response.now) }
+pub fn line_of(alloc: Global, response: &Response) -> Result<Vec<u8>, AllocError>
+    ensures { IfOk result (λ line. line.items ≡ spec.line_of response.now) }
 {
-    let mut line = Report::new(alloc);
-    match response {
+    let mut line = Vec::new(alloc);
+    let written = match response {
         Response::Answered {
             script_line,
             answer,
-        } => line.add_answer(script_line, answer)?,
-        Response::Refused { source, refusal } => line.add_refusal(source_name(*source), refusal)?,
-        _ => {}
+        } => write_reply(script_line, answer, &mut line),
+        Response::Refused { source, refusal } => write_refusal(
+            source_name(*source),
+            refusal,
+            &mut line,
+        ),
+        _ => Ok(()),
+    };
+    match written {
+        Ok(()) => Ok(line),
+        // (a list of bytes takes all bytes for which there is memory)
+        Err(_) => Err(AllocError),
     }
-    Ok(line)
 }

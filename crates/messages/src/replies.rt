@@ -222,7 +222,7 @@ pub fn response_bytes(
     let mut bytes = Bytes::new(alloc)?;
     if is_refusal(response) {
         let line = line_of(alloc, response)?;
-        add_response(&mut bytes, columns, response, line.as_bytes())?;
+        add_response(&mut bytes, columns, response, line.as_slice())?;
     } else {
         add_response(&mut bytes, columns, response, &[])?;
     }
@@ -235,6 +235,6 @@ pub fn line_bytes(alloc: Global, response: &Response) -> Result<Bytes, AllocErro
 {
     let mut bytes = Bytes::new(alloc)?;
     let line = line_of(alloc, response)?;
-    add_text(&mut bytes, line.as_bytes())?;
+    add_text(&mut bytes, line.as_slice())?;
     Ok(bytes)
 }

@@ -12,7 +12,7 @@ use crate::legends::add_legend;
 use crate::lists::{add_arrow_list, add_heading};
 use crate::scenes::Scene;
 use history::{History, Source, read_history};
-use replay::{ProgramFault, flush, write_all};
+use replay::ProgramFault;
 use std::alloc::{AllocError, Global};
 use std::io::Write;
 
@@ -39,8 +39,8 @@ pub fn picture_into<W: Write>(
     let Ok(picture) = draw(alloc, &history, &events, script) else {
         return Err(ProgramFault::Stopped);
     };
-    write_all(picture.as_bytes(), out)?;
-    flush(out)
+    out.write_all(picture.as_bytes())?;
+    Ok(out.flush()?)
 }
 
 /// The picture of a history.

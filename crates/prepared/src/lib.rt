@@ -35,8 +35,6 @@ mod masks;
 mod numbers;
 mod prepared;
 mod statements;
-#[cfg(test)]
-mod tests;
 
 pub use faults::FillFault;
 pub use laws::{event_has_the_numbers_of_its_text, filled_event_is_written};

@@ -1,6 +1,6 @@
 -- Faults of a run that was begun.
 use Rattle.std.proofs.Common.{◌≡◌, ℕ, true, List, Result, Ok, Err}
-use Rattle.std.specs.Prelude.{IfErr}
+use Rattle.std.specs.Prelude.{◌≢◌, IfErr}
 use Rattle.replay.specs.declared.faults.ProgramFault.{ProgramFault}
 use Rattle.replay.specs.declared.faults.ProgramFault.TheVariants.{Defs, Script, Stopped, Output, NoThread}
 use Rattle.replay.specs.Texts.{IsFirstFault, IsInTheRun, IsRun, is_before_the_run}
@@ -29,3 +29,14 @@ not_before P NoThread h e = absurd h
 pub nothing_before : {A : Type 0} (P : Type 0) (printed : Result A ProgramFault) → IfErr printed IsInTheRun → IfErr printed (λ fault. is_before_the_run fault ≡ true → P)
 nothing_before P (Ok done) h = tt
 nothing_before P (Err fault) h = not_before P fault h
+
+-- a run that has begun is not ended by memory
+begun_runs : (fault : ProgramFault) → is_before_the_run fault ≡ true → fault ≢ Stopped
+begun_runs (Defs refusal) h e = cc
+begun_runs (Script refusal) h e = cc
+begun_runs Stopped h e = cc
+begun_runs Output h e = cc
+begun_runs NoThread h e = cc
+
+pub runs_on : (fault : ProgramFault) → is_before_the_run fault ≡ true → fault ≢ Stopped
+runs_on fault h = begun_runs fault h

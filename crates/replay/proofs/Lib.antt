@@ -1,5 +1,5 @@
-mod Truths
 pub mod Late
 mod Printing
 mod Reporting
 pub mod Taking
+mod Verdicts

@@ -8,10 +8,12 @@ use Rattle.alone.specs.declared.answers.Answer.{Answer}
 use Rattle.commit.specs.Events.{EngineState, IsAnswered, after}
 use Rattle.commit.specs.Runs.{AreAnswers, led_to}
 use Rattle.report.specs.Report.{answer_line}
-use Rattle.replay.specs.Reports.{answer_lines}
-use Rattle.replay.specs.Lines.{ending}
+use Rattle.commit.specs.declared.seats.Seat.{Seat}
+use Rattle.commit.specs.Cores.{CoreState}
+use Rattle.replay.specs.Reports.{answer_lines, closing_part_of}
+use Rattle.replay.specs.Lines.{ending, left_lines}
 use Rattle.commit.proofs.Answering.{answers_more, led_more}
-use Rattle.replay.specs.Writing.{PrintsAnswer, PrintsAnswers, PrintsBeginning, PrintsRun}
+use Rattle.replay.specs.Writing.{PrintsAnswer, PrintsAnswers, PrintsRun}
 
 -- the first events are answered, their lines are written, and these events are left
 pub record IsPrinted (before : EngineState) (lines : List ScriptLine) (now : EngineState) (left : List ScriptLine) (old new : Option (List ℕ)) : Type 0 where
@@ -67,29 +69,13 @@ ends before lines now old new so_far =
       written = subst (λ s. Appends old new (answer_lines s so_far.answers)) all so_far.written;
     }
 
--- memory ends the run among the events
-pub stops : (before : EngineState) (lines : List ScriptLine) (now : EngineState) (left : List ScriptLine) (old new : Option (List ℕ))
-    → IsPrinted before lines now left old new → PrintsBeginning before lines old new
-stops before lines now left old new so_far = record {
-  first = so_far.first;
-  rest = left;
-  split = so_far.split;
-  answers = so_far.answers;
-  answered = so_far.answered;
-  written = so_far.written;
-}
-
--- or behind them
-pub stops_last : (before : EngineState) (lines : List ScriptLine) (left : EngineState) (old new : Option (List ℕ))
-    → PrintsAnswers before lines left old new → PrintsBeginning before lines old new
-stops_last before lines left old new all = record {
-  first = lines;
-  rest = [];
-  split = append-nil lines;
-  answers = all.answers;
-  answered = all.answered;
-  written = all.written;
-}
+-- the lines of open transactions, and the closing part, are the ending
+pub ended : {T E : Type 0} (written : Result T E) (left : EngineState) (seats : List Seat) (core : CoreState) (a b c : Option (List ℕ)) → seats ≡ left.seats → core ≡ left.core
+    → Appends a b (left_lines seats) → OnOk written (Appends b c (closing_part_of core)) → OnOk written (Appends a c (ending left))
+ended (Ok done) left seats core a b c same_seats same_core first second =
+    Appends-trans a b c (left_lines left.seats) (closing_part_of left.core) (subst (λ s. Appends a b (left_lines s)) same_seats first)
+    (subst (λ k. Appends b c (closing_part_of k)) same_core second)
+ended (Err fault) left seats core a b c same_seats same_core first second = tt
 
 -- the ending stands behind the answers
 pub closes : (before : EngineState) (lines : List ScriptLine) (left : EngineState) (old middle new : Option (List ℕ))

@@ -8,12 +8,11 @@ use Rattle.commit.specs.Cores.{IsSerializable}
 use Rattle.commit.specs.Runs.{AreAnswers, InEachRun, beginning, led_to}
 use Rattle.commit.specs.Told.{WereToldAlone}
 use Rattle.replay.specs.declared.faults.ProgramFault.{ProgramFault}
-use Rattle.replay.specs.declared.faults.ProgramFault.TheVariants.{Stopped}
 use Rattle.replay.specs.Lines.{report}
 use Rattle.replay.specs.Texts.{IsFirstFault, IsInTheRun, IsRun}
 use Rattle.replay.proofs.Late.{late_faults}
-use Rattle.replay.specs.Replay.{IsBeginning, WritesBeginning, WritesReport}
-use Rattle.replay.specs.Writing.{PrintsBeginning, PrintsRun}
+use Rattle.replay.specs.Replay.{IsBeginning, WritesReport}
+use Rattle.replay.specs.Writing.{PrintsRun}
 
 module _ (defs script : List ℕ) (limit : ℕ) (engine : EngineState) (lines : List ScriptLine) (begun : IsBeginning defs script limit engine lines) where
   reported : InEachRun (λ loaded lines answers left. IsSerializable left.core) → InEachRun (λ loaded lines answers left. WereToldAlone left.core lines answers)
@@ -38,19 +37,6 @@ module _ (defs script : List ℕ) (limit : ℕ) (engine : EngineState) (lines : 
       → {A : Type 0} (printed : Result A ProgramFault) (old new : Option (List ℕ)) → OnOk printed (PrintsRun engine lines old new) → OnOk printed (WritesReport defs script limit old new)
   reports serializable told (Ok done) old new p = reported serializable told old new p
   reports serializable told (Err fault) old new p = tt
-
-  begins_only : (old new : Option (List ℕ)) → PrintsBeginning engine lines old new → WritesBeginning defs script limit old new
-  begins_only old new p = record {
-    shown = begun.shown;
-    lines = lines;
-    ready = begun.ready;
-    prints = subst (λ e. PrintsBeginning e lines old new) begun.is p;
-  }
-
-  pub stopped : {A : Type 0} (printed : Result A ProgramFault) (old new : Option (List ℕ)) → IfErr printed (λ fault. fault ≡ Stopped → PrintsBeginning engine lines old new)
-      → IfErr printed (λ fault. fault ≡ Stopped → WritesBeginning defs script limit old new)
-  stopped (Ok done) old new p = tt
-  stopped (Err fault) old new p = λ e. begins_only old new (p e)
 
   run : IsRun defs script
   run = record { shown = begun.shown; lines = lines; ready = begun.ready }

@@ -11,7 +11,6 @@ use Rattle.commit.specs.Runs.{AreAnswers, beginning, led_to}
 use Rattle.commit.specs.Told.{WereToldAlone}
 use Rattle.replay.specs.Texts.{AreReady}
 use Rattle.replay.specs.Lines.{report}
-use Rattle.replay.specs.Writing.{PrintsBeginning}
 
 -- the engine before the first event of the script
 pub record IsBeginning (defs script : List ℕ) (limit : ℕ) (engine : EngineState) (lines : List ScriptLine) : Type 0 where
@@ -38,10 +37,3 @@ pub record WritesReport (defs script : List ℕ) (limit : ℕ) (old new : Option
   pub bytes : List ℕ
   pub is : IsReport defs script limit bytes
   pub written : Appends old new bytes
-
--- the writer gained the lines of some answers to the first events of the script, each after those before it
-pub record WritesBeginning (defs script : List ℕ) (limit : ℕ) (old new : Option (List ℕ)) : Type 0 where
-  pub shown : ViewState
-  pub lines : List ScriptLine
-  pub ready : AreReady defs script shown lines
-  pub prints : PrintsBeginning (beginning limit shown lines) lines old new

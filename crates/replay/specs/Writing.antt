@@ -1,5 +1,5 @@
 -- What a part of the run answers and writes.
-use Rattle.std.specs.Prelude.{◌≡◌, ◌++◌, ℕ, List, Option}
+use Rattle.std.specs.Prelude.{◌≡◌, ℕ, List, Option}
 use Rattle.std.specs.Io.KnownBytes.{Appends}
 use Rattle.syntax.specs.declared.statements.ScriptLine.{ScriptLine}
 use Rattle.alone.specs.declared.answers.Answer.{Answer}
@@ -31,12 +31,3 @@ pub record PrintsRun (before : EngineState) (lines : List ScriptLine) (old new :
   pub answers : List Answer
   pub answered : AreAnswers before lines answers
   pub written : Appends old new (report lines answers (led_to before lines answers))
-
--- the first of the events are answered, each after those before it, and the writer gains the lines of the answers
-pub record PrintsBeginning (before : EngineState) (lines : List ScriptLine) (old new : Option (List ℕ)) : Type 0 where
-  pub first : List ScriptLine
-  pub rest : List ScriptLine
-  pub split : first ++ rest ≡ lines
-  pub answers : List Answer
-  pub answered : AreAnswers before first answers
-  pub written : Appends old new (answer_lines first answers)

@@ -3,8 +3,8 @@
 //! [`replay_into`] is the engine, and its contract is the promise of a whole replay, from bytes to bytes: where both
 //! texts are read, the definitions are admitted and the script has 256 sessions or fewer, the writer gains exactly the
 //! lines that `specs/` says, of answers that the sessions may be given, each after those before it; otherwise it gains
-//! nothing, and the answer is the first fault. Memory or the writer may end the run. What that promise stands on, from
-//! the bottom up:
+//! nothing, and the answer is the first fault. Once it has begun, only the writer may end the run. What that promise
+//! stands on, from the bottom up:
 //!
 //! * `parse`: a text has the tree that the grammar relates to its tokens, or the stated first fault;
 //! * `definitions` and `commit::admit_taken`: what definitions define, and that no assertion is false on the rows they
@@ -27,43 +27,43 @@
 //! answered only once both texts are read to their ends. A [`ProgramFault`] is the first fault in the order
 //! of the work, which `specs/Texts` says of the two texts alone: the definitions' grammar, the script's, the
 //! definitions themselves, too many sessions; and then memory or the writer. Behind the replies stands the closing part
-//! of the committed transactions ([`add_closing_part`], `specs/Reports`), however they came to be.
-#![tactic(auto)]
+//! of the committed transactions ([`write_closing_part`], `specs/Reports`), however they came to be. What is written
+//! takes no memory, so a run that has begun ends at a fault of the writer alone.
+#![tactic(auto, using(report::proofs::Chains::appends_more))]
 
 mod closing;
 mod faults;
 mod files;
 mod intakes;
 mod texts;
-mod writing;
 
-ghost use Rattle.std.specs.Prelude.{◌≡◌, ◌≢◌, ◌≤◌, ◌++◌, true, IfOk, IfErr, OnOk};
+ghost use Rattle.std.specs.Prelude.{◌≡◌, ◌≢◌, ◌≤◌, true, IfOk, IfErr, OnOk};
 ghost use Rattle.std.specs.Io.KnownBytes.{Appends};
 ghost use Rattle.value.specs.declared.refusals.Refusal.TheVariants.{NoMemory, TooManySessions};
 ghost use Rattle.alone.specs.Alone.{IsSound};
 ghost use Rattle.commit.specs.Runs.{beginning};
-ghost use Rattle.report.specs.Report.{answer_line};
-ghost use Rattle.replay.specs.Texts.{HasFewSessions, HasManySessions, IsFirstFault, IsInTheRun, is_before_the_run};
-ghost use Rattle.replay.specs.Lines.{ending, left_line, left_lines};
+ghost use Rattle.replay.specs.Texts.{HasFewSessions, HasManySessions, IsFirstFault, is_before_the_run};
+ghost use Rattle.replay.specs.Lines.{ending, left_line, left_lines, report};
+ghost use Rattle.replay.specs.Reports.{answer_lines};
 ghost use Rattle.replay.specs.declared.faults.ProgramFault.TheVariants.{Output, Stopped};
-ghost use Rattle.replay.specs.Replay.{IsBeginning, WritesBeginning, WritesReport};
-ghost use Rattle.replay.specs.Writing.{PrintsAnswer, PrintsAnswers, PrintsBeginning, PrintsRun};
+ghost use Rattle.replay.specs.Replay.{IsBeginning, WritesReport};
+ghost use Rattle.replay.specs.Writing.{PrintsAnswer, PrintsAnswers, PrintsRun};
 
 use alone::Answer;
-pub use closing::add_closing_part;
+pub use closing::write_closing_part;
 use commit::{Engine, Seat, admit_taken, answers_lead_to_a_serial_order};
 use delta::View;
 pub use faults::ProgramFault;
 pub use files::{ReadFault, fault_of, read_all};
 pub use intakes::admit_text;
-use report::Report;
+use report::{write_left_open, write_reply};
 use sqlite_items::Items;
-use std::alloc::{AllocError, Global};
+use std::alloc::Global;
+use std::io;
 use std::io::Write;
 use syntax::ScriptLine;
 pub use texts::{MOST_SESSIONS, read_texts};
 use value::Refusal;
-pub use writing::{flush, write_all};
 
 /// Replays a script of any sessions on definitions, with at most so many commits, and writes the lines of each
 /// answer as soon as it is answered; then a line for each transaction that is left open, and the closing part.
@@ -71,17 +71,16 @@ pub use writing::{flush, write_all};
 /// Where both texts are read, the definitions are taken in and the script has 256 sessions or fewer, its events are
 /// run. The writer then gains the report of their answers and of what they leave, and nothing else. The commits that it
 /// tells of are serializable in the order that it names, and each committed transaction was told what it answers alone.
-/// An event that finds no memory is answered so, and changes nothing.
+/// An event that finds no memory is answered so, and changes nothing; what is written takes none.
 ///
 /// # Errors
 ///
 /// The first fault in the order of the work: [`ProgramFault::Defs`] where the definitions are no text of their
 /// grammar; [`ProgramFault::Script`] where the script is none of its own; `Defs` again where the definitions are
 /// refused; `Script` of [`Refusal::TooManySessions`] where the script has more than 256 sessions. After each of
-/// these the writer is as it was. Then [`ProgramFault::Stopped`] where there is no memory for the lines of an
-/// answer, or at the end of the run: the writer has then gained the lines of the answers to the first events; and
-/// [`ProgramFault::Output`] at the first fault of the writer, after which nothing is known of the bytes that went out.
-#[tactic(auto, using(crate::proofs::Reporting::stopped, crate::proofs::Reporting::first_fault, crate::proofs::Late::nothing_before))]
+/// these the writer is as it was. Then [`ProgramFault::Output`] at the first fault of the writer, after which nothing
+/// is known of the bytes that went out.
+#[tactic(auto, using(crate::proofs::Reporting::first_fault, crate::proofs::Late::nothing_before, crate::proofs::Late::runs_on))]
 pub fn replay_into<W: Write>(
     alloc: Global,
     defs: &[u8],
@@ -95,12 +94,11 @@ pub fn replay_into<W: Write>(
         (WritesReport defs.now script.now max_commits (W.contents out.old) (W.contents out.new)) }
     ensures refused { IfErr result (IsFirstFault defs.now script.now) }
     ensures nothing { IfErr result (λ fault. is_before_the_run fault ≡ true → out.new ≡ out.old) }
-    ensures stopped { IfErr result (λ fault. fault ≡ Stopped
-        → WritesBeginning defs.now script.now max_commits (W.contents out.old) (W.contents out.new)) }
+    ensures runs { IfErr result (λ fault. fault ≢ Stopped) }
 {
     let (mut engine, lines) = begin_run(alloc, defs, script, max_commits)?;
     answers_lead_to_a_serial_order();
-    let printed = print_run(alloc, &mut engine, lines.as_slice(), out);
+    let printed = print_run(&mut engine, lines.as_slice(), out);
     drop(engine);
     drop(lines);
     printed
@@ -155,21 +153,17 @@ fn seat_sessions(
 }
 
 /// Runs the events one after the other, and writes what each is answered, and then what they leave.
-#[tactic(auto, using(crate::proofs::Printing::closes, crate::proofs::Printing::stops_last))]
+#[tactic(auto, using(crate::proofs::Printing::closes))]
 fn print_run<W: Write>(
-    alloc: Global,
     engine: &mut Engine,
     lines: &[ScriptLine],
     out: &mut W,
 ) -> Result<(), ProgramFault>
     ensures written { OnOk result (PrintsRun engine.old lines.now (W.contents out.old) (W.contents out.new)) }
-    ensures late { IfErr result IsInTheRun }
-    ensures stopped { IfErr result (λ fault. fault ≡ Stopped
-        → PrintsBeginning engine.old lines.now (W.contents out.old) (W.contents out.new)) }
+    ensures output { IfErr result (λ fault. fault ≡ Output) }
 {
-    let mut report = Report::new(alloc);
-    print_answers(engine, lines, &mut report, out)?;
-    print_ending(alloc, engine, &mut report, out)
+    print_answers(engine, lines, out)?;
+    print_ending(engine, out)
 }
 
 /// Runs the events one after the other, and writes what each is answered.
@@ -177,17 +171,14 @@ fn print_run<W: Write>(
 fn print_answers<W: Write>(
     engine: &mut Engine,
     lines: &[ScriptLine],
-    report: &mut Report,
     out: &mut W,
 ) -> Result<(), ProgramFault>
     ensures written { OnOk result
         (PrintsAnswers engine.old lines.now engine.new (W.contents out.old) (W.contents out.new)) }
-    ensures late { IfErr result IsInTheRun }
-    ensures stopped { IfErr result (λ fault. fault ≡ Stopped
-        → PrintsBeginning engine.old lines.now (W.contents out.old) (W.contents out.new)) }
+    ensures output { IfErr result (λ fault. fault ≡ Output) }
 {
     for line in lines {
-        print_answer(engine, line, report, out)?;
+        print_answer(engine, line, out)?;
     }
     Ok(())
 }
@@ -196,85 +187,88 @@ fn print_answers<W: Write>(
 fn print_answer<W: Write>(
     engine: &mut Engine,
     line: &ScriptLine,
-    report: &mut Report,
     out: &mut W,
 ) -> Result<(), ProgramFault>
     ensures written { OnOk result
         (PrintsAnswer engine.old line.now engine.new (W.contents out.old) (W.contents out.new)) }
-    ensures late { IfErr result IsInTheRun }
-    ensures stopped { IfErr result (λ fault. fault ≡ Stopped → out.new ≡ out.old) }
+    ensures output { IfErr result (λ fault. fault ≡ Output) }
 {
     let answer = engine.answer(line);
-    let written = write_answer(line, &answer, report, out);
+    let written = write_reply(line, &answer, out);
     drop(answer);
-    written
-}
-
-/// Writes the lines of an answer.
-fn write_answer<W: Write>(
-    line: &ScriptLine,
-    answer: &Answer,
-    report: &mut Report,
-    out: &mut W,
-) -> Result<(), ProgramFault>
-    ensures written { OnOk result
-        (Appends (W.contents out.old) (W.contents out.new) (answer_line line.now answer.now)) }
-    ensures late { IfErr result IsInTheRun }
-    ensures stopped { IfErr result (λ fault. fault ≡ Stopped → out.new ≡ out.old) }
-{
-    report.clear();
-    if report.add_answer(line, answer).is_err() {
-        return Err(ProgramFault::Stopped);
-    }
-    write_all(report.as_bytes(), out)
+    written?;
+    Ok(())
 }
 
 /// Writes a line for each transaction that is open in the end, and the closing part, and flushes the writer.
-fn print_ending<W: Write>(
-    alloc: Global,
-    engine: &Engine,
-    report: &mut Report,
-    out: &mut W,
-) -> Result<(), ProgramFault>
+#[tactic(auto, using(report::proofs::Chains::appends_kept))]
+fn print_ending<W: Write>(engine: &Engine, out: &mut W) -> Result<(), ProgramFault>
     ensures written { OnOk result (Appends (W.contents out.old) (W.contents out.new) (ending engine.now)) }
-    ensures late { IfErr result IsInTheRun }
-    ensures stopped { IfErr result (λ fault. fault ≡ Stopped → out.new ≡ out.old) }
+    ensures output { IfErr result (λ fault. fault ≡ Output) }
 {
-    report.clear();
-    if add_ending(alloc, engine, report).is_err() {
-        return Err(ProgramFault::Stopped);
-    }
-    write_all(report.as_bytes(), out)?;
-    flush(out)
+    write_ending(engine, out)?;
+    out.flush()?;
+    Ok(())
 }
 
-/// Adds what stands behind the answers: a line for each transaction that is open in the end, and the closing part.
-///
-/// # Errors
-///
-/// `AllocError` where no memory is left. The report may then have gained some of the lines of open transactions.
-pub fn add_ending(alloc: Global, engine: &Engine, report: &mut Report) -> Result<(), AllocError>
-    ensures { OnOk result (report.new ≡ report.old ++ ending engine.now) }
+/// Writes the report of events and their answers, of which the engine is what they left: the lines of the answers, a
+/// line for each transaction that is open in the end, and the closing part.
+pub fn write_report<W: Write>(
+    lines: &[ScriptLine],
+    answers: &[Answer],
+    engine: &Engine,
+    out: &mut W,
+) -> io::Result<()>
+    ensures { OnOk result
+        (Appends (W.contents out.old) (W.contents out.new) (report lines.now answers.now engine.now)) }
 {
-    leave_open(engine.seats(), report)?;
-    add_closing_part(alloc, engine.core(), report)
+    write_replies(lines, answers, out)?;
+    write_ending(engine, out)
 }
 
-/// Adds a line for each transaction that is open.
-fn leave_open(seats: &[Seat], report: &mut Report) -> Result<(), AllocError>
-    ensures { OnOk result (report.new ≡ report.old ++ left_lines seats.now) }
+/// Writes the lines of the answers to events, as far as there are both.
+pub fn write_replies<W: Write>(
+    lines: &[ScriptLine],
+    answers: &[Answer],
+    out: &mut W,
+) -> io::Result<()>
+    ensures { OnOk result (Appends (W.contents out.old) (W.contents out.new) (answer_lines lines.now answers.now)) }
 {
-    for seat in seats {
-        leave_seat(seat, report)?;
+    let mut left = answers;
+    for line in lines {
+        let Some((answer, others)) = left.split_first() else {
+            return Ok(());
+        };
+        write_reply(line, answer, out)?;
+        left = others;
     }
     Ok(())
 }
 
-fn leave_seat(seat: &Seat, report: &mut Report) -> Result<(), AllocError>
-    ensures { OnOk result (report.new ≡ report.old ++ left_line seat.now.session seat.now.txn) }
+/// Writes what stands behind the answers: a line for each transaction that is open in the end, and the closing part.
+pub fn write_ending<W: Write>(engine: &Engine, out: &mut W) -> io::Result<()>
+    ensures { OnOk result (Appends (W.contents out.old) (W.contents out.new) (ending engine.now)) }
+{
+    write_left_seats(engine.seats(), out)?;
+    write_closing_part(engine.core(), out)
+}
+
+/// Writes a line for each transaction that is open.
+fn write_left_seats<W: Write>(seats: &[Seat], out: &mut W) -> io::Result<()>
+    ensures { OnOk result (Appends (W.contents out.old) (W.contents out.new) (left_lines seats.now)) }
+{
+    for seat in seats {
+        write_left_seat(seat, out)?;
+    }
+    Ok(())
+}
+
+fn write_left_seat<W: Write>(seat: &Seat, out: &mut W) -> io::Result<()>
+    ensures { OnOk result
+        (Appends (W.contents out.old) (W.contents out.new) (left_line seat.now.session seat.now.txn)) }
 {
     if seat.txn.is_some() {
-        report.add_left_open(&seat.session)?;
+        write_left_open(&seat.session, out)?;
     }
     Ok(())
 }

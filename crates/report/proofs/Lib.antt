@@ -1,1 +1,1 @@
-pub mod Grown
+pub mod Chains

@@ -14,9 +14,9 @@ count_line word count = word ++ decimal count ++ codes "\n"
 -- a commit: its number, its session, its snapshot, and how many rows its net change has
 unfoldable pub commit_line : Record → List ℕ
 commit_line commit =
-    decimal commit.number ++ codes " " ++ commit.session
-    ++ codes " SNAPSHOT " ++ decimal commit.snapshot
-    ++ codes " ROWS " ++ decimal (length commit.changes) ++ codes "\n"
+    decimal commit.number ++ (codes " " ++ commit.session)
+    ++ (codes " SNAPSHOT " ++ decimal commit.snapshot)
+    ++ count_line (codes " ROWS ") (length commit.changes)
 
 -- a line for each commit
 abbrev pub commit_lines : List Record → List ℕ

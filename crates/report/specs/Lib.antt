@@ -1,3 +1,2 @@
 pub mod Closing
-pub mod Fronts
 pub mod Report

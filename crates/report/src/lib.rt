@@ -1,8 +1,8 @@
 //! The bytes of the report: a line for each event's answer, and the closing part.
 //!
-//! A script is a list of lines, each an event of a named session, and the engine answers each of them. A [`Report`]
-//! grows by a line of its own for each answer, and in the end by the closing part. The lines of answers, with one line
-//! feed behind each:
+//! A script is a list of lines, each an event of a named session, and the engine answers each of them. A report has a
+//! line of its own for each answer ([`write_reply`]), and in the end the closing part. The lines of answers, with one
+//! line feed behind each:
 //!
 //! | what was answered | line |
 //! |---|---|
@@ -65,16 +65,20 @@
 //! quotes with each quote inside it written twice: `'O''HARA'`. A *root* is `ALL` or a value. A *party* is `THIS`, for
 //! the transaction that is refused, or the number of a commit. Names stand as they are.
 //!
-//! What the layer above may rest on: a call that finds memory puts just its lines behind what was there, byte by byte
-//! as `specs/Report` and `specs/Closing` have them; one that does not leaves the bytes as they were. [`Report::clear`]
-//! empties a report that was written out, so that a long run needs room for one line alone. The definitions are public,
-//! so that a crate above can say in its own contract what a whole report is.
+//! What the layer above may rest on: a call that comes to its end puts just its lines behind what the writer has, byte
+//! by byte as `specs/Report` and `specs/Closing` have them. It takes no memory, whatever it writes. The only error is
+//! the writer's own, and nothing is known of the bytes that went out before it. The definitions are public, so that a
+//! crate above can say in its own contract what a whole report is; who wants lines in memory takes a `Vec` for the
+//! writer.
 //!
-//! The modules, from the top down: `reports` has whole lines or nothing; `closing` and `lines` the pieces of a line.
-#![tactic(auto)]
+//! The modules: `lines` has the lines of answers, and `closing` those of the closing part.
+#![tactic(auto, using(crate::proofs::Chains::appends_more))]
 
 mod closing;
 mod lines;
-mod reports;
 
-pub use reports::Report;
+pub use closing::{
+    write_commit, write_commits, write_count, write_refused, write_refused_commit,
+    write_serial_order, write_verdict,
+};
+pub use lines::{write_fault, write_left_open, write_refusal, write_reply};

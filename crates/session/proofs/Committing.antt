@@ -9,7 +9,7 @@ use Rattle.txn.specs.Transactions.{OpenTransaction, outcome_of}
 use Rattle.commit.specs.Cores.{CoreState, IsCommitAnswer, IsDecided, IsUncommitted, log_of, record_of, record_with}
 use Rattle.session.specs.Limits.{LimitsState}
 use Rattle.session.specs.Books.{BookState, IsBook, IsTicketed, ReceiptState, TicketedTransaction}
-use Rattle.session.specs.Answers.{IsNotCommitted, IsReason, IsUnbegun, only, shown_for, shown_unless, with_ticket}
+use Rattle.session.specs.Answers.{IsNotCommitted, IsReason, IsUntaken, only, shown_for, shown_unless, with_ticket}
 use Rattle.session.proofs.Reasons.{reasons}
 use Rattle.session.proofs.Tokens.{book_refused}
 
@@ -35,7 +35,7 @@ module _ (shelf : Shelves) (limits : LimitsState) (b : BookState) (book : IsBook
   refused_answer refusal None after u =
       (refl, (reasons shelf limits b book log session t.inner refusal declared u.1).1, u.1, refl, ap (λ (c : CoreState). record b { core = c }) u.2)
   refused_answer refusal (Some back) after u = (
-    subst (λ (r : Refusal). IsUnbegun true r) (sym u.0) refl,
+    subst (λ (r : Refusal). IsUntaken true r) (sym u.0) refl,
     ap (λ (v : OpenTransaction). record { inner = v; ticket = t.ticket }) u.1,
     refl,
     ap (λ (c : CoreState). record b { core = c }) u.2,

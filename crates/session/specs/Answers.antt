@@ -23,11 +23,25 @@ use Rattle.commit.specs.Cores.{IsCommitAnswer, core_after_end, record_with, refu
 use Rattle.commit.specs.Epochs.{next_start}
 use Rattle.session.specs.Books.{BookState, ReceiptState, TicketState, TicketedTransaction, Token}
 
--- a begin is refused a session that is not known; or there was no memory
-abbrev pub IsUnbegun : (known : Bool) → Refusal → Type 0
-IsUnbegun known NoMemory = known ≡ true
-IsUnbegun known Stranger = known ≡ false
-IsUnbegun known refusal = ⊥
+-- a begin is refused a session that is not known, and where there is no begin number; or there was no memory
+abbrev pub IsUnbegun : (known has_number : Bool) → Refusal → Type 0
+IsUnbegun known has_number NoMemory = known ≡ true
+IsUnbegun known has_number Stranger = known ≡ false
+IsUnbegun known has_number EpochFull = (known ≡ true) × (has_number ≡ false)
+IsUnbegun known has_number refusal = ⊥
+
+-- why a begin was refused, as far as it is known without the commits
+abbrev pub IsNotBegun : Refusal → Type 0
+IsNotBegun NoMemory = ⊤
+IsNotBegun Stranger = ⊤
+IsNotBegun EpochFull = ⊤
+IsNotBegun refusal = ⊥
+
+-- a transaction is given back where it or its session is not the manager's own; or there was no memory
+abbrev pub IsUntaken : (own : Bool) → Refusal → Type 0
+IsUntaken own NoMemory = own ≡ true
+IsUntaken own Stranger = own ≡ false
+IsUntaken own refusal = ⊥
 
 -- the refusals that leave a transaction as it was
 abbrev pub IsGivenBack : Refusal → Type 0
@@ -114,7 +128,7 @@ shown_unless (Some t) shown = only None
 abbrev pub IsNotCommitted : BookState → (own : Bool) → (session : List ℕ) → TicketedTransaction → Refusal
     → (back : Option TicketedTransaction) → (shown : List (Option ReceiptState)) → (after : BookState) → Type 0
 IsNotCommitted b own session t refusal (Some back) shown after =
-    IsUnbegun own refusal × (back ≡ t) × (shown ≡ only None) × (after ≡ b)
+    IsUntaken own refusal × (back ≡ t) × (shown ≡ only None) × (after ≡ b)
 IsNotCommitted b own session t refusal None shown after =
     (own ≡ true) × IsEnding refusal × IsCommitAnswer b.core session t.inner (Err refusal)
     × (shown ≡ shown_for b refusal) × (after ≡ after_refusal b session t.inner refusal)

@@ -1,5 +1,5 @@
 -- What lies under a manager's lock, and which sessions, transactions and receipts are its own.
-use Rattle.std.specs.Prelude.{◌≡◌, ◌<◌, ◌≤◌, ◌+◌, ◌==◌, ◌&&◌, ◌++◌, zero, suc, ℕ, Bool, false, nat_le, nat_lt, List, [], ◌∷◌, length, reverse, slice_get, Option, Some, None, Contains}
+use Rattle.std.specs.Prelude.{◌≡◌, ◌<◌, ◌≤◌, ◌+◌, ◌==◌, ◌&&◌, ◌++◌, zero, suc, ℕ, Bool, false, nat_le, nat_lt, List, [], ◌∷◌, length, reverse, slice_get, Option, Some, None, Contains, if◌then◌else◌}
 use Rattle.boxcar.specs.Table.{Where, Shelves, Shows}
 use Rattle.assertion.specs.Declarations.{Declared}
 use Rattle.assertion.specs.Meaning.{State}
@@ -198,6 +198,11 @@ pub record IsOver (c : CoreState) (loaded : ViewState) (limit : ℕ) : Type 0 wh
   pub start_is : c.start ≡ loaded.state
   pub limit_is : c.limit ≡ limit
   pub within : length c.records ≤ limit
+
+-- The tables that an epoch leaves: the newest of its Book. Where another Book lies under the lock, which no call brings
+-- about, they are those that the epoch began on.
+abbrev pub tables_left : BookState → (id epoch : ℕ) → (loaded : Token) → ViewState
+tables_left b id epoch loaded = if is_from b id epoch loaded then newest_tables b.core else loaded.value.view
 
 -- the Book after a begin, a commit, a refused commit and a rollback
 abbrev pub after_begin : (read_only : Bool) → BookState → BookState

@@ -9,6 +9,7 @@ ghost use Rattle.alone.specs.Alone.{IsSound};
 ghost use Rattle.alone.specs.Modes.{assertion_of};
 ghost use Rattle.alone.specs.Commits.{IsLog};
 ghost use Rattle.alone.specs.Epoch.{state_of};
+ghost use Rattle.conflict.specs.Live.{has_begin_number};
 ghost use Rattle.txn.specs.Transactions.{transaction_at_begin, truth_of};
 ghost use Rattle.commit.specs.Cores.{IsCommitAnswer, IsLive, IsSerializable, log_of, newest_tables, record_of};
 ghost use Rattle.commit.specs.Epochs.{IsNextEpoch, next_start, start_of};
@@ -17,6 +18,7 @@ ghost use Rattle.session.specs.Books.{AreReceipts, IsBook, IsFresh, IsFrom, IsKe
 ghost use Rattle.session.specs.Answers.{AreShownBy, IsNotCommitted, IsReason, IsRefusedOver, IsSatisfied, IsStanding, IsUnbegun, after_rollback, only, party_receipt, receipt_at, shown_among, shown_unless, with_ticket};
 
 use crate::items::Item;
+use crate::limits::Limits;
 use crate::making::append;
 use crate::named::Named;
 use crate::receipts::Receipt;
@@ -142,7 +144,8 @@ impl<N: Named> Book<N> {
     /// # Errors
     ///
     /// [`Refusal::Stranger`] exactly where the Book or the session is not of the manager that asks, or the session
-    /// has seen a number above the Book's; or [`Refusal::NoMemory`]. All is then as it was.
+    /// has seen a number above the Book's; [`Refusal::EpochFull`] where 2^64 - 1 transactions have begun in the epoch; or
+    /// [`Refusal::NoMemory`]. All is then as it was.
     pub fn begin(
         &mut self,
         id: u64,
@@ -161,7 +164,8 @@ impl<N: Named> Book<N> {
         ensures fresh { IfOk result (λ txn. session.old.seen ≤ txn.inner.snapshot) }
         ensures after { IfOk result (λ _. self.new ≡ after_begin false self.old) }
         ensures seen { IfOk result (λ txn. session.new ≡ record session.old { seen = txn.inner.snapshot }) }
-        ensures unbegun { IfErr result (IsUnbegun (knows self.old session.old id epoch)) }
+        ensures unbegun { IfErr result (IsUnbegun (knows self.old session.old id epoch)
+            (has_begin_number self.old.core.live)) }
         ensures same { IfErr result (λ _. (self.new ≡ self.old) × (session.new ≡ session.old)) }
     {
         self.begin_as(id, epoch, session, false)
@@ -190,7 +194,8 @@ impl<N: Named> Book<N> {
         ensures fresh { IfOk result (λ txn. session.old.seen ≤ txn.inner.snapshot) }
         ensures after { IfOk result (λ _. self.new ≡ after_begin true self.old) }
         ensures seen { IfOk result (λ txn. session.new ≡ record session.old { seen = txn.inner.snapshot }) }
-        ensures unbegun { IfErr result (IsUnbegun (knows self.old session.old id epoch)) }
+        ensures unbegun { IfErr result (IsUnbegun (knows self.old session.old id epoch)
+            (has_begin_number self.old.core.live)) }
         ensures same { IfErr result (λ _. (self.new ≡ self.old) × (session.new ≡ session.old)) }
     {
         self.begin_as(id, epoch, session, true)
@@ -335,12 +340,45 @@ impl<N: Named> Book<N> {
         ensures refused { IfErr result (λ refusal. refusal ≢ NoMemory
             → if_holds (is_from self.old id epoch loaded.now) Stranger
             (next_start dropped.now created.now (newest_tables self.old.core)) ≡ Err refusal) }
-        ensures over { IfErr result (λ refusal. refusal ≢ NoMemory → refusal ≢ Stranger
+        ensures over { IfErr result (λ refusal. refusal ≢ NoMemory
+            → is_from self.old id epoch loaded.now ≡ true
             → IsRefusedOver loaded.now.value.view dropped.now created.now refusal) }
         ensures same { OnErr result (self.new ≡ self.old) }
     {
-        let (next, token) = self.next(rt, shelf, id, epoch, loaded, dropped, created)?;
-        Ok((mem::replace(self, next), token))
+        match self.next(rt, shelf, id, epoch, loaded, dropped, created) {
+            Ok((next, token)) => Ok((mem::replace(self, next), token)),
+            Err(refusal) => Err(refusal),
+        }
+    }
+
+    /// Opens the Book of an epoch over tables on which no assertion is false, in the place of this one, which is handed
+    /// out with the token of the tables. What this one gave out is a stranger's from now on.
+    ///
+    /// # Errors
+    ///
+    /// [`Refusal::NoMemory`]. All is then as it was.
+    pub(crate) fn replace<R: Wait>(
+        &mut self,
+        rt: &R,
+        shelf: &Shelf,
+        id: u64,
+        epoch: u64,
+        start: View,
+        limits: &Limits,
+    ) -> Result<(Book<N>, Token), Refusal>
+        requires shelf { shelf.now ≡ N.shelf id }
+        requires limits { limits.now ≡ N.limits id }
+        requires sound { IsSound start.declared start.state }
+        ensures before { IfOk result (λ made. made.0 ≡ self.old) }
+        ensures shown { IfOk result (λ made. Shows (N.shelf id) made.1) }
+        ensures start { IfOk result (λ made. made.1.value.view ≡ start) }
+        ensures refused { IfErr result (λ refusal. refusal ≡ NoMemory) }
+        ensures same { OnErr result (self.new ≡ self.old) }
+    {
+        let alloc = self.allocator();
+        let (commits, sessions) = (limits.commits(), limits.sessions());
+        let (book, token) = Book::open(rt, alloc, shelf, id, epoch, start, commits, sessions)?;
+        Ok((mem::replace(self, book), token))
     }
 
     /// The commits, of which there are at most as many as the limit says.
@@ -383,7 +421,8 @@ impl<N: Named> Book<N> {
         ensures fresh { IfOk result (λ txn. session.old.seen ≤ txn.inner.snapshot) }
         ensures after { IfOk result (λ _. self.new ≡ after_begin read_only self.old) }
         ensures seen { IfOk result (λ txn. session.new ≡ record session.old { seen = txn.inner.snapshot }) }
-        ensures unbegun { IfErr result (IsUnbegun (knows self.old session.old id epoch)) }
+        ensures unbegun { IfErr result (IsUnbegun (knows self.old session.old id epoch)
+            (has_begin_number self.old.core.live)) }
         ensures same { IfErr result (λ _. (self.new ≡ self.old) × (session.new ≡ session.old)) }
     {
         if !self.knows(session, id, epoch) {
@@ -486,11 +525,16 @@ impl<N: Named> Book<N> {
         ensures refused { IfErr result (λ refusal. refusal ≢ NoMemory
             → if_holds (is_from self.now id epoch loaded.now) Stranger
             (next_start dropped.now created.now (newest_tables self.now.core)) ≡ Err refusal) }
-        ensures over { IfErr result (λ refusal. refusal ≢ NoMemory → refusal ≢ Stranger
+        ensures over { IfErr result (λ refusal. refusal ≢ NoMemory
+            → is_from self.now id epoch loaded.now ≡ true
             → IsRefusedOver loaded.now.value.view dropped.now created.now refusal) }
     {
-        let start = self.next_start(shelf, id, epoch, loaded, dropped, created)?;
-        let alloc = *self.tokens.allocator();
+        // (a `match` in place of `?`, whose conversion of the refusal a clause would have to see through)
+        let start = match self.next_start(shelf, id, epoch, loaded, dropped, created) {
+            Ok(start) => start,
+            Err(refusal) => return Err(refusal),
+        };
+        let alloc = self.allocator();
         let (commits, most) = self.limits();
         Ok(Book::open(rt, alloc, shelf, id, epoch + 1, start, commits, most)?)
     }
@@ -515,15 +559,20 @@ impl<N: Named> Book<N> {
         ensures refused { IfErr result (λ refusal. refusal ≢ NoMemory
             → if_holds (is_from self.now id epoch loaded.now) Stranger
             (next_start dropped.now created.now (newest_tables self.now.core)) ≡ Err refusal) }
-        ensures over { IfErr result (λ refusal. refusal ≢ NoMemory → refusal ≢ Stranger
+        ensures over { IfErr result (λ refusal. refusal ≢ NoMemory
+            → is_from self.now id epoch loaded.now ≡ true
             → IsRefusedOver loaded.now.value.view dropped.now created.now refusal) }
     {
         if !self.is_from(id, epoch, loaded) {
             return Err(Refusal::Stranger);
         }
         self.recall_loaded(shelf, id, epoch, loaded);
-        let alloc = *self.tokens.allocator();
+        let alloc = self.allocator();
         readmit(alloc, self.core.newest(), dropped, created)
+    }
+
+    pub(crate) fn allocator(&self) -> Global {
+        *self.tokens.allocator()
     }
 
     /// The most commits and the most sessions that there may be.

@@ -1,6 +1,6 @@
 //! What an epoch of a manager leaves.
 
-ghost use Rattle.std.specs.Prelude.{◌≡◌, ◌<◌, ◌-◌, true, false, Some, IfOk, IfErr, slice_get};
+ghost use Rattle.std.specs.Prelude.{◌≡◌, ◌<◌, ◌-◌, true, false, is_some, Some, IfOk, IfErr, IfSome, slice_get};
 ghost use Rattle.std.specs.Arc.{arc_value};
 ghost use Rattle.value.specs.declared.refusals.Refusal.TheVariants.{Stranger};
 ghost use Rattle.boxcar.specs.Table.{Shows};
@@ -13,6 +13,7 @@ use crate::receipts::Receipt;
 use crate::shelf::{Shelf, Token};
 use alone::Record;
 use commit::Core;
+use delta::View;
 use std::sync::Arc;
 use value::Refusal;
 
@@ -27,37 +28,11 @@ pub struct History<N: Named> {
     book: Book<N>,
     ghost shelf_is: { arc_value shelf ≡ N.shelf id },
     ghost loaded_is: { Shows (N.shelf id) loaded },
-    ghost from: { is_from book id epoch loaded ≡ true },
 }
 
 impl<N: Named> History<N> {
-    /// What a Book leaves that is of this id and epoch, and was opened with this token.
-    ///
-    /// # Errors
-    ///
-    /// [`Refusal::Stranger`] exactly where it is not.
+    /// What an epoch leaves that began on the tables of this token, with what lay under the lock.
     pub(crate) fn new(
-        shelf: Arc<Shelf>,
-        id: u64,
-        epoch: u64,
-        loaded: Token,
-        book: Book<N>,
-    ) -> Result<History<N>, Refusal>
-        requires shelf { arc_value shelf ≡ N.shelf id }
-        requires loaded { Shows (N.shelf id) loaded }
-        ensures whose { IfOk result (λ history. (history.id ≡ id) × (history.epoch ≡ epoch)) }
-        ensures loaded { IfOk result (λ history. history.loaded ≡ loaded) }
-        ensures book { IfOk result (λ history. history.book ≡ book) }
-        ensures stranger { IfErr result (λ refusal. (refusal ≡ Stranger) × (is_from book id epoch loaded ≡ false)) }
-    {
-        if !book.is_from(id, epoch, &loaded) {
-            return Err(Refusal::Stranger);
-        }
-        Ok(History::of(shelf, id, epoch, loaded, book))
-    }
-
-    /// The same of a Book that is known to be of this id and epoch, and to have been opened with this token.
-    pub(crate) fn of(
         shelf: Arc<Shelf>,
         id: u64,
         epoch: u64,
@@ -66,7 +41,6 @@ impl<N: Named> History<N> {
     ) -> History<N>
         requires shelf { arc_value shelf ≡ N.shelf id }
         requires loaded { Shows (N.shelf id) loaded }
-        requires from { is_from book id epoch loaded ≡ true }
         ensures whose { (result.id ≡ id) × (result.epoch ≡ epoch) }
         ensures loaded { result.loaded ≡ loaded }
         ensures book { result.book ≡ book }
@@ -88,16 +62,29 @@ impl<N: Named> History<N> {
     }
 
     /// The commits: their records, the tables before and after them, their serial order, and the commits that were
-    /// refused. They are over the tables that the epoch began on, and no more than the manager's limit. A manager of
-    /// another shelf goes on where they end: `Manager::open` with `Definitions::of(alloc, history.core().newest())`.
-    #[tactic(auto, using(crate::proofs::Known::from_facts))]
+    /// refused. A manager of another shelf goes on where they end: `Manager::open` with
+    /// `Definitions::of(alloc, history.core().newest())`.
     pub fn core(&self) -> &Core
-        ensures core { result.now ≡ self.now.book.core }
-        ensures over { IsOver self.now.book.core self.now.loaded.value.view (N.limits self.now.id).commits }
+        ensures { result.now ≡ self.now.book.core }
     {
+        self.book.core()
+    }
+
+    /// The tables that the epoch began on: the commits are over them, and no more than the manager's limit. None where
+    /// what the manager had under its lock is another's, which no call brings about: what is under a lock is known by
+    /// its type alone, and so it is looked at.
+    #[tactic(auto, using(crate::proofs::Known::from_facts))]
+    pub fn loaded(&self) -> Option<&View>
+        ensures own { is_some result ≡ is_from self.now.book self.now.id self.now.epoch self.now.loaded }
+        ensures tables { IfSome result (λ view. view.now ≡ self.now.loaded.value.view) }
+        ensures over { IfSome result (λ view. IsOver self.now.book.core view.now (N.limits self.now.id).commits) }
+    {
+        if !self.book.is_from(self.id, self.epoch, &self.loaded) {
+            return None;
+        }
         self.book
             .recall_loaded(&self.shelf, self.id, self.epoch, &self.loaded);
-        self.book.core()
+        Some(&self.shelf.item(&self.loaded).view)
     }
 
     /// The committed transactions have a serial order, and no committed tables make an assertion false.

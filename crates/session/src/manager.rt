@@ -1,15 +1,15 @@
 //! The manager.
 
-ghost use Rattle.std.specs.Prelude.{◌≡◌, ◌≢◌, ◌≤◌, ◌<◌, ◌+◌, true, false, Ok, Err, Some, IfOk, IfErr, OnErr};
+ghost use Rattle.std.specs.Prelude.{◌≡◌, ◌≢◌, ◌≤◌, ◌<◌, ◌+◌, true, false, Ok, Err, Some, IfOk, IfErr, OnErr, OnOk};
 ghost use Rattle.std.specs.Arc.{arc_value};
 ghost use Rattle.value.specs.declared.refusals.Refusal.TheVariants.{EpochFull, NoMemory, Stranger, TooManySessions};
 ghost use Rattle.boxcar.specs.Table.{Shows};
 ghost use Rattle.alone.specs.Modes.{assertion_of};
 ghost use Rattle.commit.specs.Admission.{tables_if_satisfied};
-ghost use Rattle.commit.specs.Cores.{newest_tables, record_with};
+ghost use Rattle.commit.specs.Cores.{record_with};
 ghost use Rattle.commit.specs.Epochs.{next_start};
-ghost use Rattle.session.specs.Books.{IsFresh, IsTicketed};
-ghost use Rattle.session.specs.Answers.{AreShownBy, IsReason, IsRefused, IsRefusedOver, IsSatisfied, IsStanding};
+ghost use Rattle.session.specs.Books.{IsFresh, IsTicketed, tables_left};
+ghost use Rattle.session.specs.Answers.{AreShownBy, IsNotBegun, IsReason, IsRefused, IsRefusedOver, IsSatisfied, IsStanding};
 
 use crate::book::Book;
 use crate::history::History;
@@ -19,7 +19,7 @@ use crate::receipts::Receipt;
 use crate::sessions::Session;
 use crate::shelf::{Shelf, Token};
 use crate::tickets::{CloseFailure, CommitFault, Txn};
-use commit::require_satisfied;
+use commit::{readmit, require_satisfied};
 use definitions::{Definitions, NewAssertion};
 use std::alloc::Global;
 use std::mem;
@@ -31,11 +31,13 @@ use value::{Refusal, Text, Truth};
 pub struct Manager<N: Named> {
     shelf: Arc<Shelf>,
     id: u64,
+    limits: Limits,
     epoch: u64,
     /// The token of the tables before the first commit of the epoch.
     loaded: Token,
     book: Mutex<Book<N>>,
     ghost shelf_is: { arc_value shelf ≡ N.shelf id },
+    ghost limits_are: { limits ≡ N.limits id },
     ghost loaded_is: { Shows (N.shelf id) loaded },
     ghost good: { IsSatisfied loaded.value.view },
 }
@@ -74,6 +76,7 @@ impl<N: Named> Manager<N> {
         Ok(Manager {
             shelf: shared,
             id,
+            limits,
             epoch: 0,
             loaded,
             book: Mutex::new(book),
@@ -100,21 +103,22 @@ impl<N: Named> Manager<N> {
     ///
     /// # Errors
     ///
-    /// [`Refusal::Stranger`] for a session of another manager or epoch; or [`Refusal::NoMemory`]. The session is then
-    /// as it was.
+    /// [`Refusal::Stranger`] for a session of another manager or epoch; [`Refusal::EpochFull`] where 2^64 - 1
+    /// transactions have begun in the epoch; or [`Refusal::NoMemory`]. The session is then as it was.
     pub fn begin<R: Wait>(&self, rt: &R, session: &mut Session<N>) -> Result<Txn<N>, Refusal>
         ensures fresh { IfOk result (λ txn. session.old.seen ≤ txn.inner.snapshot) }
         ensures seen { IfOk result (λ txn. session.new ≡ record session.old { seen = txn.inner.snapshot }) }
         ensures view { IfOk result (λ txn. (txn.ticket.token.value.number ≡ txn.inner.snapshot) × IsTicketed txn) }
         ensures empty { IfOk result (IsFresh (N.shelf self.now.id) self.now.id self.now.epoch false) }
-        ensures refused { IfErr result (λ refusal. refusal ≢ NoMemory → refusal ≡ Stranger) }
+        ensures own { IfOk result (λ _. (session.old.id ≡ self.now.id) × (session.old.epoch ≡ self.now.epoch)) }
+        ensures refused { IfErr result IsNotBegun }
         ensures same { OnErr result (session.new ≡ session.old) }
     {
         self.book.lock(rt).begin(self.id, self.epoch, session)
     }
 
     /// A transaction that is read only begins, as by [`Manager::begin`]: its INSERT, UPDATE and DELETE are refused
-    /// [`Refusal::ReadOnly`], and fewer commits are refused for it, itself among them.
+    /// [`Refusal::ReadOnlyTransaction`], and fewer commits are refused for it, itself among them.
     ///
     /// # Errors
     ///
@@ -128,7 +132,8 @@ impl<N: Named> Manager<N> {
         ensures seen { IfOk result (λ txn. session.new ≡ record session.old { seen = txn.inner.snapshot }) }
         ensures view { IfOk result (λ txn. (txn.ticket.token.value.number ≡ txn.inner.snapshot) × IsTicketed txn) }
         ensures empty { IfOk result (IsFresh (N.shelf self.now.id) self.now.id self.now.epoch true) }
-        ensures refused { IfErr result (λ refusal. refusal ≢ NoMemory → refusal ≡ Stranger) }
+        ensures own { IfOk result (λ _. (session.old.id ≡ self.now.id) × (session.old.epoch ≡ self.now.epoch)) }
+        ensures refused { IfErr result IsNotBegun }
         ensures same { OnErr result (session.new ≡ session.old) }
     {
         self.book
@@ -154,6 +159,8 @@ impl<N: Named> Manager<N> {
         ensures commit { IfOk result (λ receipt.
             receipt.token.value.commit ≡ Some (record_with receipt.number session.old.name txn.inner)) }
         ensures whose { IfOk result (λ receipt. (receipt.id ≡ self.now.id) × (receipt.epoch ≡ self.now.epoch)) }
+        ensures own { IfOk result (λ _. (session.old.id ≡ self.now.id) × (session.old.epoch ≡ self.now.epoch)) }
+        ensures own_txn { IfOk result (λ _. (txn.ticket.id ≡ self.now.id) × (txn.ticket.epoch ≡ self.now.epoch)) }
         ensures refused { IfErr result (λ fault. IsRefused txn fault.refusal fault.txn) }
         ensures reason { IfErr result (λ fault.
             IsReason (N.limits self.now.id).commits session.old.name txn.inner fault.refusal fault.shown) }
@@ -185,7 +192,8 @@ impl<N: Named> Manager<N> {
     ///
     /// [`Refusal::Stranger`] for a transaction of another manager or epoch, which is given back.
     pub fn rollback<R: Wait>(&self, rt: &R, txn: Txn<N>) -> Result<(), (Refusal, Txn<N>)>
-        ensures { IfErr result (λ fault. (fault.0 ≡ Stranger) × (fault.1 ≡ txn)) }
+        ensures own { OnOk result ((txn.ticket.id ≡ self.now.id) × (txn.ticket.epoch ≡ self.now.epoch)) }
+        ensures refused { IfErr result (λ fault. (fault.0 ≡ Stranger) × (fault.1 ≡ txn)) }
     {
         let ended = self
             .book
@@ -224,8 +232,8 @@ impl<N: Named> Manager<N> {
     /// [`Refusal::EpochFull`] at the epoch 18,446,744,073,709,551,615, behind which there is none. Then, on the newest
     /// tables: [`Refusal::UnknownName`] of the first name to drop that no assertion has, or has any more; of the first
     /// new assertion that is refused, what CREATE ASSERTION answers; and [`Refusal::FalseAtCreation`] with the first
-    /// assertion that is false, and its least bad root. Or [`Refusal::NoMemory`]; or [`Refusal::Stranger`], as by
-    /// [`Manager::close`]. Nothing has changed then: the epoch goes on.
+    /// assertion that is false, and its least bad root. Or [`Refusal::NoMemory`]. Nothing has changed then: the epoch
+    /// goes on.
     pub fn checkpoint<R: Wait>(
         &mut self,
         rt: &R,
@@ -237,11 +245,12 @@ impl<N: Named> Manager<N> {
         ensures whose { IfOk result (λ history. (history.id ≡ self.old.id) × (history.epoch ≡ self.old.epoch)) }
         ensures loaded { IfOk result (λ history. history.loaded ≡ self.old.loaded) }
         ensures start { IfOk result (λ history.
-            next_start dropped.now created.now (newest_tables history.book.core) ≡ Ok self.new.loaded.value.view) }
+            next_start dropped.now created.now
+            (tables_left history.book history.id history.epoch history.loaded) ≡ Ok self.new.loaded.value.view) }
         ensures room { IfOk result (λ _. self.old.epoch < 18446744073709551615) }
         ensures full { self.old.epoch ≡ 18446744073709551615 → IfErr result (λ refusal. refusal ≡ EpochFull) }
         ensures refused { self.old.epoch < 18446744073709551615 → IfErr result (λ refusal. refusal ≢ NoMemory
-            → refusal ≢ Stranger → IsRefusedOver self.old.loaded.value.view dropped.now created.now refusal) }
+            → IsRefusedOver self.old.loaded.value.view dropped.now created.now refusal) }
         ensures same { OnErr result ((self.new.epoch ≡ self.old.epoch) × (self.new.loaded ≡ self.old.loaded)) }
     {
         if self.epoch == u64::MAX {
@@ -252,19 +261,14 @@ impl<N: Named> Manager<N> {
 
     /// Ends the manager. The commits of its epoch are left, over the tables that the epoch began on. It takes no
     /// memory.
-    ///
-    /// # Errors
-    ///
-    /// [`Refusal::Stranger`] where what lies under the lock is another manager's, which no call brings about: what is
-    /// under a lock is known by its type alone, and so it is looked at.
-    pub fn close(self) -> Result<History<N>, Refusal>
-        ensures whose { IfOk result (λ history. (history.id ≡ self.id) × (history.epoch ≡ self.epoch)) }
-        ensures loaded { IfOk result (λ history. history.loaded ≡ self.loaded) }
-        ensures stranger { IfErr result (λ refusal. refusal ≡ Stranger) }
+    pub fn close(self) -> History<N>
+        ensures whose { (result.id ≡ self.id) × (result.epoch ≡ self.epoch) }
+        ensures loaded { result.loaded ≡ self.loaded }
     {
         let Manager {
             shelf,
             id,
+            limits: _,
             epoch,
             loaded,
             book,
@@ -287,8 +291,9 @@ impl<N: Named> Manager<N> {
         ensures whose { IfOk result (λ history. (history.id ≡ self.old.id) × (history.epoch ≡ self.old.epoch)) }
         ensures loaded { IfOk result (λ history. history.loaded ≡ self.old.loaded) }
         ensures start { IfOk result (λ history.
-            next_start dropped.now created.now (newest_tables history.book.core) ≡ Ok self.new.loaded.value.view) }
-        ensures refused { IfErr result (λ refusal. refusal ≢ NoMemory → refusal ≢ Stranger
+            next_start dropped.now created.now
+            (tables_left history.book history.id history.epoch history.loaded) ≡ Ok self.new.loaded.value.view) }
+        ensures refused { IfErr result (λ refusal. refusal ≢ NoMemory
             → IsRefusedOver self.old.loaded.value.view dropped.now created.now refusal) }
         ensures same { OnErr result ((self.new.epoch ≡ self.old.epoch) × (self.new.loaded ≡ self.old.loaded)) }
     {
@@ -296,24 +301,27 @@ impl<N: Named> Manager<N> {
             Ok(shelf) => shelf,
             Err(_) => return Err(Refusal::NoMemory),
         };
-        let epoch = self.epoch;
-        // (a `match` in place of `?`, whose conversion of the refusal a clause would have to see through)
+        let (id, epoch) = (self.id, self.epoch);
         let book = self.book.get_mut();
-        let (before, start) = match book.checkpoint(
-            rt,
-            &shelf,
-            self.id,
-            epoch,
-            &self.loaded,
-            dropped,
-            created,
-        ) {
+        // What is under a lock is known by its type alone, and so it is looked at whose Book this is. No call brings it
+        // about that it is another's; the next epoch then begins on the tables that this one began on.
+        let made = if book.is_from(id, epoch, &self.loaded) {
+            book.checkpoint(rt, &shelf, id, epoch, &self.loaded, dropped, created)
+        } else {
+            let begun = &shelf.item(&self.loaded).view;
+            match readmit(book.allocator(), begun, dropped, created) {
+                Ok(start) => book.replace(rt, &shelf, id, epoch + 1, start, &self.limits),
+                Err(refusal) => Err(refusal),
+            }
+        };
+        // (a `match` in place of `?`, whose conversion of the refusal a clause would have to see through)
+        let (before, start) = match made {
             Ok(made) => made,
             Err(refusal) => return Err(refusal),
         };
         // (what is known of the manager speaks of its epoch and tables together: no call stands between the two)
         self.epoch = epoch + 1;
         let loaded = mem::replace(&mut self.loaded, start);
-        Ok(History::of(shelf, self.id, epoch, loaded, before))
+        Ok(History::new(shelf, id, epoch, loaded, before))
     }
 }

@@ -1,14 +1,15 @@
 -- What is read, answered and written so far, and what comes behind it.
-use Rattle.std.proofs.Common.{◌≡◌, ◌≢◌, ℕ, true, false, List, [], ◌∷◌, ◌++◌, length, Option, Some, None, refl, sym, ap, ◌∙◌, subst, append-nil, append_assoc}
+use Rattle.std.proofs.Common.{◌≡◌, ◌≢◌, ◌⊎◌, inl, inr, ℕ, Bool, true, false, List, [], ◌∷◌, ◌++◌, length, Option, Some, None, refl, sym, ap, ◌∙◌, subst, append-nil, append_assoc}
 use Rattle.std.specs.Prelude.{IfSome}
-use Rattle.std.specs.Io.KnownBytes.{Appends, Consumes, IsAtEnd}
+use Rattle.std.specs.Io.KnownBytes.{Appends, Consumes, IsAtEnd, Keeps}
 use Rattle.std.proofs.KnownBytes.{Appends-nil, Appends-trans, Consumes-nil, Consumes-trans}
 use Rattle.commit.specs.Events.{EngineState}
 use Rattle.shell.specs.declared.cutting.Place.TheVariants.{End}
-use Rattle.shell.specs.Cuts.{Piece, Rest, forward, pieces_of, rest_of, scan, whole_of}
-use Rattle.shell.specs.Reading.{ReadsOn, ReadsSome}
+use Rattle.shell.specs.Cuts.{Piece, Rest, cut_off, forward, pieces_of, rest_of, scan, whole_of}
+use Rattle.shell.specs.Reading.{ReadsOn}
 use Rattle.shell.specs.Outcomes.{AreOutcomes, Outcome, output_line, output_lines}
-use Rattle.shell.specs.Writing.{Answers, AreRun, Feeds, FeedsAll, FeedsFirst, IsOver, left_by, left_by_all}
+use Rattle.shell.specs.Writing.{Answers, AnswersNone, AnswersWhole, AreRun, Feeds, FeedsAll, IsOver, Turns, left_by, left_by_all}
+use Rattle.shell.proofs.Lines.{answers_whole}
 use Rattle.shell.proofs.Pieces.{IsQuietTurn, IsWholeTurn, pieces_append, quiet_turn, rest_append, rest_at, same_rests, whole_turn}
 
 -- ---- outcomes one behind the other
@@ -64,36 +65,6 @@ module _ (before : EngineState) (rest : Rest) where
           (Appends-trans old now new (output_lines fed.outcomes) (output_lines next.outcomes) fed.written next.written);
     }
 
-    -- a turn more that does not come to its end
-    pub first_more : (to new : Option (List ℕ)) → FeedsFirst left last middle to now new → FeedsFirst before rest from to old new
-    first_more to new next = record {
-      bytes = fed.bytes ++ next.bytes;
-      read = Consumes-trans from middle to fed.bytes next.bytes fed.read next.read;
-      first = pieces_of rest fed.bytes ++ next.first;
-      others = next.others;
-      split = append_assoc (pieces_of rest fed.bytes) next.first next.others ∙ ap (λ l. pieces_of rest fed.bytes ++ l) next.split
-          ∙ ap (λ r. pieces_of rest fed.bytes ++ pieces_of r next.bytes) fed.last_is ∙ sym (pieces_append rest fed.bytes next.bytes);
-      outcomes = fed.outcomes ++ next.outcomes;
-      are = are_append (pieces_of rest fed.bytes) next.first fed.outcomes next.outcomes fed.are next.are;
-      run = run_append before fed.outcomes next.outcomes fed.run (subst (λ e. AreRun e next.outcomes) fed.leaves next.run);
-      written = subst (Appends old new) (sym (output_lines_append fed.outcomes next.outcomes))
-          (Appends-trans old now new (output_lines fed.outcomes) (output_lines next.outcomes) fed.written next.written);
-    }
-
-    -- or none more
-    pub feeds_first : FeedsFirst before rest from middle old now
-    feeds_first = record {
-      bytes = fed.bytes;
-      read = fed.read;
-      first = pieces_of rest fed.bytes;
-      others = [];
-      split = append-nil (pieces_of rest fed.bytes);
-      outcomes = fed.outcomes;
-      are = fed.are;
-      run = fed.run;
-      written = fed.written;
-    }
-
     -- nothing is left
     pub feeds_all : (end : EngineState) (behind : Rest) (new : Option (List ℕ)) → IsOver left last end behind middle now new → FeedsAll before rest end behind from old new
     feeds_all end behind new over = record {
@@ -112,20 +83,6 @@ module _ (before : EngineState) (rest : Rest) where
         all_read (Some xs) None bytes h end = absurd h
         all_read (Some xs) (Some ys) bytes h end = sym (h ∙ ap (λ l. bytes ++ l) end ∙ append-nil bytes)
 
-  -- bytes are read, and no more is done
-  pub first_none : (from to old : Option (List ℕ)) → ReadsSome from to → FeedsFirst before rest from to old old
-  first_none from to old some = record {
-    bytes = some.bytes;
-    read = some.read;
-    first = [];
-    others = pieces_of rest some.bytes;
-    split = refl;
-    outcomes = [];
-    are = tt;
-    run = tt;
-    written = Appends-nil old;
-  }
-
   -- ---- one turn
 
   module _ (now : Rest) (from to : Option (List ℕ)) (read : ReadsOn rest now true from to) where
@@ -134,9 +91,6 @@ module _ (before : EngineState) (rest : Rest) where
 
     now_is : grown ≡ now
     now_is = same_rests grown now (sym read.longer.at_is) (sym read.longer.bytes_are) (sym read.longer.place_is)
-
-    some_read : ReadsSome from to
-    some_read = record { bytes = read.bytes; read = read.read }
 
     -- which ends no piece
     pub feeds_quiet : (old : Option (List ℕ)) → (now.place ≡ End → ⊥) → Feeds before rest before now from to old old
@@ -171,10 +125,6 @@ module _ (before : EngineState) (rest : Rest) where
           written = subst (Appends old new) (sym (append-nil (output_line answered.outcome))) answered.written;
         }
 
-    -- or one that is not, since memory ended it
-    pub first_whole : (old new : Option (List ℕ)) → new ≡ old → FeedsFirst before rest from to old new
-    first_whole old new same = subst (FeedsFirst before rest from to old) (sym same) (first_none from to old some_read)
-
     nothing_added : (xs ys : List ℕ) → xs ++ ys ≡ [] → ys ≡ []
     nothing_added [] ys e = e
     nothing_added (x ∷ xs) ys e = let no : ⊥ = cc in absurd no
@@ -194,4 +144,71 @@ module _ (before : EngineState) (rest : Rest) where
     last_is = same_rests now rest read.longer.at_is (read.longer.bytes_are ∙ ap (λ l. rest.bytes ++ l) (read.none refl) ∙ append-nil rest.bytes)
         (read.longer.place_is ∙ ap (scan rest.place) (read.none refl));
     same = refl;
+  }
+
+  -- a turn that reads nothing, and in which the reader fails
+  pub feeds_nothing : (now : Rest) (from to old : Option (List ℕ)) → ReadsOn rest now false from to → Feeds before rest before now from to old old
+  feeds_nothing now from to old read = record {
+    bytes = [];
+    read = subst (Consumes from to) (read.none refl) read.read;
+    outcomes = [];
+    are = tt;
+    run = tt;
+    leaves = refl;
+    last_is = same_rests now rest read.longer.at_is (read.longer.bytes_are ∙ ap (λ l. rest.bytes ++ l) (read.none refl) ∙ append-nil rest.bytes)
+        (read.longer.place_is ∙ ap (scan rest.place) (read.none refl));
+    written = Appends-nil old;
+  }
+
+  -- ---- one turn, and the piece that it ends, if it ends one
+
+  module _ (more : Bool) (now : Rest) (from to : Option (List ℕ)) (read : ReadsOn rest now more from to)
+      (left : EngineState) (last : Rest) (old new : Option (List ℕ)) where
+    abbrev Ends : Type 0
+    Ends = AnswersWhole more before now left last old new ⊎ AnswersNone more before now left last old new
+
+    unchanged : AnswersNone more before now left last old new → Feeds before rest before now from to old old → Feeds before rest left last from to old new
+    unchanged none fed = subst (λ l. Feeds before rest l last from to old new) (sym none.left_is)
+        (subst (λ r. Feeds before rest before r from to old new) (sym none.last_is)
+        (subst (Feeds before rest before now from to old) (sym none.same) fed))
+
+    fed_if : (known : Bool) → more ≡ known → Ends → Feeds before rest left last from to old new
+    fed_if known e (inl whole) =
+        feeds_whole now from to (subst (λ m. ReadsOn rest now m from to) whole.some read) left last old new whole.ends whole.answers whole.cut
+    fed_if true e (inr none) = unchanged none (feeds_unless now from to (subst (λ m. ReadsOn rest now m from to) e read) old (none.goes_on e))
+    fed_if false e (inr none) = unchanged none (feeds_nothing now from to old (subst (λ m. ReadsOn rest now m from to) e read))
+
+    -- also where the reader fails
+    pub feeds_turn : Ends → Feeds before rest left last from to old new
+    feeds_turn = fed_if more refl
+
+    turned_if : (known : Bool) → more ≡ known → Ends → (more ≡ false → IsAtEnd from) → Turns more before rest left last from to old new
+    turned_if true e ends end = subst (λ m. Turns m before rest left last from to old new) (sym e) (fed_if true e ends)
+    turned_if false e (inl whole) end = (let some = whole.some in let no : ⊥ = cc in absurd no)
+    turned_if false e (inr none) end = subst (λ m. Turns m before rest left last from to old new) (sym e)
+        (subst (λ l. IsOver before rest l last from old new) (sym none.left_is)
+        (subst (λ r. IsOver before rest before r from old new) (sym none.last_is)
+        (subst (IsOver before rest before now from old) (sym none.same) (over_turn now from to old (subst (λ m. ReadsOn rest now m from to) e read) (end e)))))
+
+    -- a turn of which the reader says whether it read more
+    pub turns : Ends → (more ≡ false → IsAtEnd from) → Turns more before rest left last from to old new
+    turns = turned_if more refl
+
+-- ---- whether a piece is ended
+
+module _ (before : EngineState) (rest : Rest) (old : Option (List ℕ)) where
+  pub none_read : AnswersNone false before rest before rest old old
+  none_read = record { goes_on = λ e. (let no : ⊥ = cc in absurd no); left_is = refl; last_is = refl; same = refl }
+
+  pub none_ended : (rest.bytes ≢ [] → rest.place ≢ End) → AnswersNone true before rest before rest old old
+  none_ended goes = record { goes_on = λ e. goes; left_is = refl; last_is = refl; same = refl }
+
+  pub whole_ended : (more : Bool) (at : ℕ) (bytes : List ℕ) (left : EngineState) (last : Rest) (middle new : Option (List ℕ)) → more ≡ true → rest.place ≡ End
+      → Answers before (record { at = at; bytes = bytes }) left old middle → at ≡ (whole_of rest).at → bytes ≡ (whole_of rest).bytes → Keeps middle new → last ≡ cut_off rest
+      → AnswersWhole more before rest left last old new
+  whole_ended more at bytes left last middle new some ends told same_at same_bytes kept cut = record {
+    some = some;
+    ends = ends;
+    answers = answers_whole before at bytes rest left old middle new told same_at same_bytes kept;
+    cut = cut;
   }

@@ -6,7 +6,7 @@ use Rattle.std.proofs.lemmas.Bool.{and_parts, eqb-true, not-true}
 use Rattle.token.specs.Rules.{with_doubled_quotes, in_quotes, is_in_line}
 use Rattle.shell.specs.declared.cutting.Place.{Place}
 use Rattle.shell.specs.declared.cutting.Place.TheVariants.{Plain, Dash, Comment, Quote, End}
-use Rattle.shell.specs.Cuts.{PassesOver, Rest, after, piece_at_end, no_rest, pieces_of, text_of_pieces, rest_of, scan, with_byte}
+use Rattle.shell.specs.Cuts.{PassesOver, Rest, after, is_outside, piece_at_end, no_rest, pieces_of, text_of_pieces, rest_of, scan, with_byte}
 use Rattle.shell.proofs.Pieces.{HaveNoEnd, after_end, longer, no_end_pieces, no_end_rest, rest_at}
 
 -- ---- the pieces are the input
@@ -77,8 +77,12 @@ quoted_leads (b ∷ inside) = go (b == 39) refl (quoted_leads inside)
         let still : after Quote b ≡ Quote = ap (λ q. cond q Plain Quote) e in
         ap (λ p. scan p (with_doubled_quotes inside ++ 39 ∷ [])) still ∙ later
 
-pub quotes_pass : (inside : List ℕ) → PassesOver Plain (in_quotes inside) Plain
-quotes_pass inside = passes Plain Plain (in_quotes inside) (quote_no_end, quoted_no_end inside) (quoted_leads inside)
+pub quotes_pass : (place : Place) → is_outside place ≡ true → (inside : List ℕ) → PassesOver place (in_quotes inside) Plain
+quotes_pass Plain outside inside = passes Plain Plain (in_quotes inside) (quote_no_end, quoted_no_end inside) (quoted_leads inside)
+quotes_pass Dash outside inside = passes Dash Plain (in_quotes inside) (quote_no_end, quoted_no_end inside) (quoted_leads inside)
+quotes_pass Comment outside inside = let no : ⊥ = cc in absurd no
+quotes_pass Quote outside inside = let no : ⊥ = cc in absurd no
+quotes_pass End outside inside = passes End Plain (in_quotes inside) (quote_no_end, quoted_no_end inside) (quoted_leads inside)
 
 -- in a comment
 
@@ -98,5 +102,10 @@ line_leads (b ∷ line) h =
     let parts = and_parts (is_in_line b) (list_all is_in_line line) h in
     ap (λ p. scan p (line ++ 10 ∷ [])) (still_in b parts.0) ∙ line_leads line parts.1
 
-pub comments_pass : (line : List ℕ) → list_all is_in_line line ≡ true → PassesOver Plain (45 ∷ 45 ∷ (line ++ 10 ∷ [])) Plain
-comments_pass line h = passes Plain Plain (45 ∷ 45 ∷ (line ++ 10 ∷ [])) (dash_no_end, (comment_no_end, line_no_end line h)) (line_leads line h)
+pub comments_pass : (place : Place) → is_outside place ≡ true → (line : List ℕ) → list_all is_in_line line ≡ true → PassesOver place (45 ∷ 45 ∷ (line ++ 10 ∷ [])) Plain
+comments_pass Plain outside line h = passes Plain Plain (45 ∷ 45 ∷ (line ++ 10 ∷ [])) (dash_no_end, (comment_no_end, line_no_end line h)) (line_leads line h)
+-- (the first dash opens the comment, and the second stands in it)
+comments_pass Dash outside line h = passes Dash Plain (45 ∷ 45 ∷ (line ++ 10 ∷ [])) (comment_no_end, (comment_no_end, line_no_end line h)) (line_leads line h)
+comments_pass Comment outside line h = let no : ⊥ = cc in absurd no
+comments_pass Quote outside line h = let no : ⊥ = cc in absurd no
+comments_pass End outside line h = passes End Plain (45 ∷ 45 ∷ (line ++ 10 ∷ [])) (dash_no_end, (comment_no_end, line_no_end line h)) (line_leads line h)

@@ -1,6 +1,8 @@
 -- Why a piece is no event, and why a shell ends early.
-use Rattle.std.proofs.Common.{◌≡◌, ℕ, true, false, List, ◌++◌, ◌-◌, length, take, drop, arith, Result, Ok, Err, inl, inr, refl, sym, ap, ◌∙◌, subst, append-nil}
+use Rattle.std.proofs.Common.{◌≡◌, ℕ, true, false, List, ◌-◌, length, take, drop, arith, Option, Result, Ok, Err, inl, inr, refl, sym, ap, ◌∙◌, subst}
 use Rattle.std.specs.Prelude.{OnOk, codes}
+use Rattle.std.specs.Io.KnownBytes.{Appends}
+use Rattle.std.proofs.KnownBytes.{Appends-nil}
 use Rattle.std.proofs.lemmas.List.{length-drop, take_all}
 use Rattle.value.specs.declared.refusals.Refusal.{Refusal}
 use Rattle.value.specs.declared.refusals.Refusal.TheVariants.{NoMemory, Syntax}
@@ -18,7 +20,7 @@ use Rattle.shell.specs.Cuts.{Piece, forward}
 use Rattle.shell.specs.Headings.{address, event_text, is_blank}
 use Rattle.shell.specs.Outcomes.{Blank, Fault, IsBreak, IsFaultOf, IsLineOf, Reply, refusal_in_input}
 use Rattle.shell.specs.Shell.{IsInTheTalk, is_stop}
-use Rattle.shell.specs.Writing.{Breaks, IsAnsweredNow, Responds}
+use Rattle.shell.specs.Writing.{Answers, Breaks, IsAnsweredNow}
 
 -- all that stands from a place on
 all_behind : (from : ℕ) (bytes : List ℕ) → take (length bytes - from) (drop from bytes) ≡ drop from bytes
@@ -67,30 +69,30 @@ module _ (at : ℕ) (bytes : List ℕ) (some : is_blank bytes ≡ false) where
         is = is ∙ ap (λ n. refusal_in_input (forward at n) (Syntax (length text))) e;
       }
 
--- ---- outcomes, where there was memory for the line
+-- ---- outcomes, where the writer took the line
 
-module _ (piece : Piece) (old : List ℕ) where
-  pub responds_blank : (before : EngineState) → is_blank piece.bytes ≡ true → Responds before piece before old old
-  responds_blank before blank = record { outcome = Blank; is = blank; run = tt; leaves = refl; grown = sym (append-nil old) }
+module _ (piece : Piece) (old : Option (List ℕ)) where
+  pub answers_blank : (before : EngineState) → is_blank piece.bytes ≡ true → Answers before piece before old old
+  answers_blank before blank = record { outcome = Blank; is = blank; run = tt; leaves = refl; written = Appends-nil old }
 
-  pub responds_reply : {A E : Type 0} (added : Result A E) (before : EngineState) (line : ScriptLine) (answer : Answer) (left : EngineState) (new : List ℕ)
-      → IsLineOf piece.bytes line → IsAnsweredNow before line answer left → OnOk added (new ≡ old ++ answer_line line answer) → OnOk added (Responds before piece left old new)
-  responds_reply (Ok done) before line answer left new read now grown =
-      record { outcome = Reply line answer; is = read; run = now.answered; leaves = now.leaves; grown = grown }
-  responds_reply (Err none) before line answer left new read now grown = tt
+  pub answers_reply : {A E : Type 0} (written : Result A E) (before : EngineState) (line : ScriptLine) (answer : Answer) (left : EngineState) (new : Option (List ℕ))
+      → IsLineOf piece.bytes line → IsAnsweredNow before line answer left → OnOk written (Appends old new (answer_line line answer)) → OnOk written (Answers before piece left old new)
+  answers_reply (Ok done) before line answer left new read now grown =
+      record { outcome = Reply line answer; is = read; run = now.answered; leaves = now.leaves; written = grown }
+  answers_reply (Err fault) before line answer left new read now grown = tt
 
-  pub responds_fault : {A E : Type 0} (added : Result A E) (before : EngineState) (refusal : Refusal) (left : EngineState) (new : List ℕ)
-      → IsFaultOf piece refusal → left ≡ before → OnOk added (new ≡ old ++ refusal_line (codes "SCRIPT") refusal) → OnOk added (Responds before piece left old new)
-  responds_fault (Ok done) before refusal left new is same grown = record { outcome = Fault refusal; is = is; run = tt; leaves = same; grown = grown }
-  responds_fault (Err none) before refusal left new is same grown = tt
+  pub answers_fault : {A E : Type 0} (written : Result A E) (before : EngineState) (refusal : Refusal) (left : EngineState) (new : Option (List ℕ))
+      → IsFaultOf piece refusal → left ≡ before → OnOk written (Appends old new (refusal_line (codes "SCRIPT") refusal)) → OnOk written (Answers before piece left old new)
+  answers_fault (Ok done) before refusal left new is same grown = record { outcome = Fault refusal; is = is; run = tt; leaves = same; written = grown }
+  answers_fault (Err fault) before refusal left new is same grown = tt
 
   pub breaks_blank : is_blank piece.bytes ≡ true → Breaks piece old old
-  breaks_blank blank = record { outcome = Blank; is = blank; grown = sym (append-nil old) }
+  breaks_blank blank = record { outcome = Blank; is = blank; written = Appends-nil old }
 
-  pub breaks_fault : {A E : Type 0} (added : Result A E) (refusal : Refusal) (new : List ℕ) → IsBreak piece refusal
-      → OnOk added (new ≡ old ++ refusal_line (codes "SCRIPT") refusal) → OnOk added (Breaks piece old new)
-  breaks_fault (Ok done) refusal new is grown = record { outcome = Fault refusal; is = is; grown = grown }
-  breaks_fault (Err none) refusal new is grown = tt
+  pub breaks_fault : {A E : Type 0} (written : Result A E) (refusal : Refusal) (new : Option (List ℕ)) → IsBreak piece refusal
+      → OnOk written (Appends old new (refusal_line (codes "SCRIPT") refusal)) → OnOk written (Breaks piece old new)
+  breaks_fault (Ok done) refusal new is grown = record { outcome = Fault refusal; is = is; written = grown }
+  breaks_fault (Err fault) refusal new is grown = tt
 
 -- ---- a fault of the writer
 

@@ -1,7 +1,7 @@
 -- What was fed to a shell from its beginning is a conversation.
-use Rattle.std.proofs.Common.{◌≡◌, ℕ, Bool, true, List, [], ◌∷◌, ◌++◌, Option, Some, None, Result, Ok, Err, refl, sym, ap, ◌∙◌, subst, append-nil, append_assoc}
-use Rattle.std.specs.Prelude.{IfErr, IfSome, OnOk}
-use Rattle.std.specs.Io.KnownBytes.{Appends, Consumes}
+use Rattle.std.proofs.Common.{◌≡◌, ℕ, Bool, true, List, [], ◌∷◌, ◌++◌, Option, Result, Ok, Err, refl, sym, ap, ◌∙◌, subst, append_assoc}
+use Rattle.std.specs.Prelude.{IfErr, OnOk}
+use Rattle.std.specs.Io.KnownBytes.{Appends}
 use Rattle.std.proofs.KnownBytes.{Appends-trans}
 use Rattle.syntax.specs.declared.statements.ScriptLine.{ScriptLine}
 use Rattle.commit.specs.Cores.{IsSerializable}
@@ -9,7 +9,6 @@ use Rattle.commit.specs.Events.{EngineState, after}
 use Rattle.commit.specs.Runs.{AreAnswers, InEachRun, beginning, led_to}
 use Rattle.commit.specs.Told.{WereToldAlone}
 use Rattle.delta.specs.Views.{ViewState}
-use Rattle.report.specs.Fronts.{BeginsWith}
 use Rattle.replay.specs.declared.faults.ProgramFault.{ProgramFault}
 use Rattle.replay.specs.declared.faults.ProgramFault.TheVariants.{Defs, Script, Stopped, Output, NoThread}
 use Rattle.replay.specs.Texts.{IsInTheRun, is_before_the_run}
@@ -19,7 +18,7 @@ use Rattle.shell.specs.Cuts.{Piece, Rest, no_rest, piece_of, pieces_of}
 use Rattle.shell.specs.Outcomes.{AreOutcomes, IsLast, Outcome, Blank, Reply, Fault, answers_in, output_line, output_lines, lines_in}
 use Rattle.shell.specs.Seats.{first_seated, seated_lines, engine_with_seat}
 use Rattle.shell.specs.Shell.{IsBeginning, IsFirstFault, IsInTheTalk, IsRunFault, IsTalk, IsTaken, WritesConversation, WritesFirst, is_before_the_talk, is_run_stop, is_stop}
-use Rattle.shell.specs.Writing.{AreRun, FeedsAll, FeedsFirst, Finishes, ending_if, left_by_all}
+use Rattle.shell.specs.Writing.{AreRun, Feeds, FeedsAll, Finishes, ending_if, left_by_all}
 use Rattle.shell.proofs.Seating.{after_whole, answered_whole, seated_late, whole, whole_now, with_seats}
 
 -- the answers of an engine whose sessions come are those of one that has all from the start
@@ -89,41 +88,13 @@ module _ (defs : List ℕ) (limit : ℕ) (engine : EngineState) (begun : IsBegin
           (Appends-trans old middle new (output_lines fed.outcomes) (output_line ended.last ++ ending_if reports left) fed.written ended.written);
     }
 
-    begins_with : (from to : Option (List ℕ)) (bytes : List ℕ) → Consumes from to bytes → IfSome from (λ known. BeginsWith bytes known)
-    begins_with None to bytes h = tt
-    begins_with (Some xs) None bytes h = absurd h
-    begins_with (Some xs) (Some ys) bytes h = record { rest = ys; is = h }
-
-    begins_all : (from : Option (List ℕ)) (bytes : List ℕ) → IfSome from (λ known. bytes ≡ known) → IfSome from (λ known. BeginsWith bytes known)
-    begins_all None bytes h = tt
-    begins_all (Some xs) bytes h = record { rest = []; is = sym h ∙ sym (append-nil bytes) }
-
-    -- it ended among the pieces
-    pub first_pieces : (from to old new : Option (List ℕ)) → FeedsFirst engine no_rest from to old new → WritesFirst defs limit from old new
-    first_pieces from to old new fed = record {
+    -- the reader ended it
+    pub first_pieces : (left : EngineState) (rest : Rest) (from to old new : Option (List ℕ)) → Feeds engine no_rest left rest from to old new → WritesFirst defs limit from to old new
+    first_pieces left rest from to old new fed = record {
       shown = begun.shown;
       taken = begun.taken;
       input = fed.bytes;
-      begins = begins_with from to fed.bytes fed.read;
-      first = fed.first;
-      others = fed.others;
-      split = fed.split;
-      outcomes = fed.outcomes;
-      left = left_by_all engine fed.outcomes;
-      talk = talk fed.first fed.outcomes fed.are fed.run;
-      written = fed.written;
-    }
-
-    -- or behind them
-    pub all_pieces : (left : EngineState) (rest : Rest) (from old new : Option (List ℕ)) → FeedsAll engine no_rest left rest from old new → WritesFirst defs limit from old new
-    all_pieces left rest from old new fed = record {
-      shown = begun.shown;
-      taken = begun.taken;
-      input = fed.bytes;
-      begins = begins_all from fed.bytes fed.all;
-      first = pieces_of no_rest fed.bytes;
-      others = [];
-      split = append-nil (pieces_of no_rest fed.bytes);
+      read = fed.read;
       outcomes = fed.outcomes;
       left = left_by_all engine fed.outcomes;
       talk = talk (pieces_of no_rest fed.bytes) fed.outcomes fed.are fed.run;
@@ -135,13 +106,6 @@ module _ (defs : List ℕ) (limit : ℕ) (engine : EngineState) (begun : IsBegin
         → FeedsAll engine no_rest left rest from old middle → OnOk finished (Finishes rest left reports middle new) → OnOk finished (WritesConversation defs limit reports from old new)
     conversation_if (Ok done) left rest reports from old middle new fed ended = conversation left rest reports from old middle new fed ended
     conversation_if (Err fault) left rest reports from old middle new fed ended = tt
-
-    pub all_if : {A : Type 0} {W : Type 0} (contents : W → Option (List ℕ)) (finished : Result A ShellFault) (left : EngineState) (rest : Rest) (from old : Option (List ℕ)) (middle new : W)
-        → FeedsAll engine no_rest left rest from old (contents middle) → IfErr finished (λ fault. is_stop fault ≡ true → new ≡ middle)
-        → IfErr finished (λ fault. is_stop fault ≡ true → WritesFirst defs limit from old (contents new))
-    all_if contents (Ok done) left rest from old middle new fed same = tt
-    all_if contents (Err fault) left rest from old middle new fed same =
-        λ stop. subst (λ w. WritesFirst defs limit from old (contents w)) (sym (same stop)) (all_pieces left rest from old (contents middle) fed)
 
 -- a fault of a shell that was begun
 

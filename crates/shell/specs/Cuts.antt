@@ -1,5 +1,5 @@
 -- How the bytes of an input are cut into pieces, at each semicolon outside of quoted texts and comments.
-use Rattle.std.specs.Prelude.{◌≡◌, ◌+◌, ◌-◌, ◌^◌, ◌==◌, ℕ, List, [], ◌∷◌, ◌++◌, length, min, take, if◌then◌else◌}
+use Rattle.std.specs.Prelude.{◌≡◌, ◌+◌, ◌-◌, ◌^◌, ◌==◌, Bool, true, false, ℕ, List, [], ◌∷◌, ◌++◌, length, min, take, if◌then◌else◌}
 use Rattle.shell.specs.declared.cutting.Place.{Place}
 use Rattle.shell.specs.declared.cutting.Place.TheVariants.{Plain, Dash, Comment, Quote, End}
 
@@ -14,6 +14,14 @@ after End b = behind b
 after Dash b = if b == 45 then Comment else behind b
 after Comment b = if b == 10 then Plain else Comment
 after Quote b = if b == 39 then Plain else Quote
+
+-- whether the next byte stands in no quoted text and in no comment
+abbrev pub is_outside : Place → Bool
+is_outside Plain = true
+is_outside Dash = true
+is_outside Comment = false
+is_outside Quote = false
+is_outside End = true
 
 -- behind some bytes
 abbrev pub scan : Place → List ℕ → Place
@@ -42,6 +50,10 @@ piece_of rest = record { at = rest.at; bytes = rest.bytes }
 -- the piece that the last byte of these ends
 abbrev pub whole_of : Rest → Piece
 whole_of rest = record { at = rest.at; bytes = take (length rest.bytes - 1) rest.bytes }
+
+-- behind that piece
+abbrev pub cut_off : Rest → Rest
+cut_off rest = record { at = forward rest.at (length rest.bytes); bytes = []; place = rest.place }
 
 -- before the first byte
 abbrev pub no_rest : Rest

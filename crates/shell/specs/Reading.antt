@@ -12,8 +12,3 @@ pub record ReadsOn (before now : Rest) (more : Bool) (from to : Option (List ℕ
   pub longer : IsLonger before now bytes
   pub some : more ≡ true → bytes ≢ []
   pub none : more ≡ false → bytes ≡ []
-
--- some bytes
-pub record ReadsSome (from to : Option (List ℕ)) : Type 0 where
-  pub bytes : List ℕ
-  pub read : Consumes from to bytes

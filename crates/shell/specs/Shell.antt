@@ -1,7 +1,6 @@
 -- What the shell writes for definitions and an input.
 use Rattle.std.specs.Prelude.{◌≡◌, ◌++◌, ◌⊎◌, ℕ, Bool, true, false, List, [], Option, IfSome, ⊤}
-use Rattle.std.specs.Io.KnownBytes.{Appends}
-use Rattle.value.specs.declared.refusals.Refusal.{Refusal}
+use Rattle.std.specs.Io.KnownBytes.{Appends, Consumes}
 use Rattle.syntax.specs.SchemaGrammar.{IsSchema}
 use Rattle.delta.specs.Views.{ViewState}
 use Rattle.alone.specs.Alone.{IsSound}
@@ -9,7 +8,6 @@ use Rattle.commit.specs.Cores.{IsSerializable}
 use Rattle.commit.specs.Events.{EngineState}
 use Rattle.commit.specs.Runs.{AreAnswers, beginning, led_to}
 use Rattle.commit.specs.Told.{WereToldAlone}
-use Rattle.report.specs.Fronts.{BeginsWith}
 use Rattle.replay.specs.declared.faults.ProgramFault.{ProgramFault}
 use Rattle.replay.specs.declared.faults.ProgramFault.TheVariants.{Defs, Script, Stopped, Output, NoThread}
 use Rattle.replay.specs.Takings.{IsAdmitted, IsRefused}
@@ -59,18 +57,16 @@ pub record WritesConversation (defs : List ℕ) (limit : ℕ) (reports : Bool) (
     pub is : IsConversation defs input limit reports bytes
     pub written : Appends old new bytes
 
--- the writer gained the lines of the first pieces of what was read
-pub record WritesFirst (defs : List ℕ) (limit : ℕ) (from old new : Option (List ℕ)) : Type 0 where
+-- The reader gave these bytes and no more, and the writer gained the lines of all pieces that they end: the line of a
+-- piece goes out when its semicolon was read, and not later.
+pub record WritesFirst (defs : List ℕ) (limit : ℕ) (from to old new : Option (List ℕ)) : Type 0 where
   pub shown : ViewState
   pub taken : IsAdmitted defs shown
   pub input : List ℕ
-  pub begins : IfSome from (λ bytes. BeginsWith input bytes)
-  pub first : List Piece
-  pub others : List Piece
-  pub split : first ++ others ≡ pieces_of no_rest input
+  pub read : Consumes from to input
   pub outcomes : List Outcome
   pub left : EngineState
-  pub talk : IsTalk limit shown first outcomes left
+  pub talk : IsTalk limit shown (pieces_of no_rest input) outcomes left
   pub written : Appends old new (output_lines outcomes)
 
 -- the shell was begun

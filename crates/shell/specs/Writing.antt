@@ -1,11 +1,12 @@
 -- What a part of the input is answered, and what is written of it.
-use Rattle.std.specs.Prelude.{◌≡◌, ◌++◌, ℕ, Bool, true, false, List, [], ◌∷◌, Option, IfSome, ⊤}
+use Rattle.std.specs.Prelude.{◌≡◌, ◌≢◌, ◌++◌, ℕ, Bool, true, false, List, [], ◌∷◌, Option, IfSome, ⊤}
 use Rattle.std.specs.Io.KnownBytes.{Appends, Consumes, IsAtEnd}
 use Rattle.syntax.specs.declared.statements.ScriptLine.{ScriptLine}
 use Rattle.alone.specs.declared.answers.Answer.{Answer}
 use Rattle.commit.specs.Events.{EngineState, IsAnswered, after}
 use Rattle.replay.specs.Lines.{ending}
-use Rattle.shell.specs.Cuts.{Piece, Rest, piece_of, pieces_of, rest_of}
+use Rattle.shell.specs.declared.cutting.Place.TheVariants.{End}
+use Rattle.shell.specs.Cuts.{Piece, Rest, cut_off, piece_of, pieces_of, rest_of, whole_of}
 use Rattle.shell.specs.Outcomes.{AreOutcomes, IsLast, IsOutcome, Outcome, Blank, Reply, Fault, output_line, output_lines}
 use Rattle.shell.specs.Seats.{engine_with_seat}
 
@@ -36,19 +37,11 @@ pub record IsAnsweredNow (before : EngineState) (line : ScriptLine) (answer : An
   pub answered : IsAnswered (engine_with_seat before line.session) line answer
   pub leaves : left ≡ after (engine_with_seat before line.session) line answer
 
--- what is left at the end of the input has its outcome, and the report grows by its line
-pub record Breaks (piece : Piece) (old new : List ℕ) : Type 0 where
+-- what is left at the end of the input has its outcome, and the writer gains its line
+pub record Breaks (piece : Piece) (old new : Option (List ℕ)) : Type 0 where
   pub outcome : Outcome
   pub is : IsLast piece outcome
-  pub grown : new ≡ old ++ output_line outcome
-
--- a piece has its outcome, and the report grows by its line
-pub record Responds (before : EngineState) (piece : Piece) (left : EngineState) (old new : List ℕ) : Type 0 where
-  pub outcome : Outcome
-  pub is : IsOutcome piece outcome
-  pub run : IsRun before outcome
-  pub leaves : left ≡ left_by before outcome
-  pub grown : new ≡ old ++ output_line outcome
+  pub written : Appends old new (output_line outcome)
 
 -- some bytes are read, each piece that they end has its outcome, and the writer gains the lines
 pub record Feeds (before : EngineState) (rest : Rest) (left : EngineState) (last : Rest)
@@ -60,18 +53,6 @@ pub record Feeds (before : EngineState) (rest : Rest) (left : EngineState) (last
   pub run : AreRun before outcomes
   pub leaves : left ≡ left_by_all before outcomes
   pub last_is : last ≡ rest_of rest bytes
-  pub written : Appends old new (output_lines outcomes)
-
--- some bytes are read, the first pieces that they end have their outcomes, and the writer gains the lines
-pub record FeedsFirst (before : EngineState) (rest : Rest) (from to old new : Option (List ℕ)) : Type 0 where
-  pub bytes : List ℕ
-  pub read : Consumes from to bytes
-  pub first : List Piece
-  pub others : List Piece
-  pub split : first ++ others ≡ pieces_of rest bytes
-  pub outcomes : List Outcome
-  pub are : AreOutcomes first outcomes
-  pub run : AreRun before outcomes
   pub written : Appends old new (output_lines outcomes)
 
 -- nothing was left to read, and nothing has changed
@@ -105,18 +86,27 @@ pub record Answers (before : EngineState) (piece : Piece) (left : EngineState) (
   pub leaves : left ≡ left_by before outcome
   pub written : Appends old new (output_line outcome)
 
+-- the last byte that was read ends a piece, which is answered and cut off
+pub record AnswersWhole (more : Bool) (before : EngineState) (rest : Rest) (left : EngineState) (last : Rest) (old new : Option (List ℕ)) : Type 0 where
+  pub some : more ≡ true
+  pub ends : rest.place ≡ End
+  pub answers : Answers before (whole_of rest) left old new
+  pub cut : last ≡ cut_off rest
+
+-- nothing was read, or its last byte ends no piece
+pub record AnswersNone (more : Bool) (before : EngineState) (rest : Rest) (left : EngineState) (last : Rest) (old new : Option (List ℕ)) : Type 0 where
+  pub goes_on : more ≡ true → rest.bytes ≢ [] → rest.place ≢ End
+  pub left_is : left ≡ before
+  pub last_is : last ≡ rest
+  pub same : new ≡ old
+
 -- what stands behind the lines, if it is asked for
 abbrev pub ending_if : Bool → EngineState → List ℕ
 ending_if false left = []
 ending_if true left = ending left
 
--- what is left at the end of the input has its outcome, and behind its line stands the report, if it is asked for
-pub record Ends (rest : Rest) (left : EngineState) (reports : Bool) (old new : List ℕ) : Type 0 where
-  pub last : Outcome
-  pub last_is : IsLast (piece_of rest) last
-  pub grown : new ≡ (old ++ output_line last) ++ ending_if reports left
-
--- and the writer gains both
+-- What is left at the end of the input has its outcome. The writer gains its line, and behind it the report, if it is
+-- asked for.
 pub record Finishes (rest : Rest) (left : EngineState) (reports : Bool) (old new : Option (List ℕ)) : Type 0 where
   pub last : Outcome
   pub last_is : IsLast (piece_of rest) last

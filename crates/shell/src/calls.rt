@@ -21,9 +21,9 @@ use std::io::{BufRead, Write};
 /// # Errors
 ///
 /// [`ShellFault::Run`] of `Defs` where the definitions are refused, or there is no memory to take them in: nothing was
-/// read or written. Of `Stopped` where there is no memory for what is read or for the lines of an answer, and
-/// [`ShellFault::Input`] at the first fault of the reader: the writer has then gained the lines of the first pieces. Of
-/// `Output` at the first fault of the writer, after which nothing is known of the bytes that went out.
+/// read or written. [`ShellFault::Input`] at the first fault of the reader, and `Run` of `Stopped` where there is no
+/// memory for what is read: all events whose semicolon was read are answered then, and the writer has gained their
+/// lines. `Run` of `Output` at the first fault of the writer, after which nothing is known of the bytes that went out.
 #[tactic(auto, using(crate::proofs::Talking::conversation_if, crate::proofs::Talking::first_pieces, crate::proofs::Talking::late_faults, crate::proofs::Talking::late_fault, crate::proofs::Talking::were_begun, crate::proofs::Talking::was_begun, crate::proofs::Talking::not_a_stop, crate::proofs::Talking::taken_of))]
 pub fn shell_into<R: BufRead, W: Write>(
     alloc: Global,
@@ -41,7 +41,8 @@ pub fn shell_into<R: BufRead, W: Write>(
     ensures nothing { IfErr result (λ fault. is_before_the_talk fault ≡ true
         → (input.new ≡ input.old) × (out.new ≡ out.old)) }
     ensures stopped { IfErr result (λ fault. is_stop fault ≡ true
-        → WritesFirst defs.now max_commits (R.remaining input.old) (W.contents out.old) (W.contents out.new)) }
+        → WritesFirst defs.now max_commits (R.remaining input.old) (R.remaining input.new) (W.contents out.old)
+        (W.contents out.new)) }
 {
     let mut shell = match begin_shell(alloc, defs, max_commits) {
         Ok(shell) => shell,

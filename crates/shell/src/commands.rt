@@ -1,6 +1,8 @@
 //! What a person at a terminal may ask for beside events.
 
-ghost use Rattle.std.specs.Prelude.{IfErr};
+ghost use Rattle.std.specs.Prelude.{◌≡◌, IfErr};
+ghost use Rattle.replay.specs.declared.faults.ProgramFault.TheVariants.{Output};
+ghost use Rattle.shell.specs.declared.faults.ShellFault.TheVariants.{Run};
 ghost use Rattle.shell.specs.Shell.{IsInTheTalk};
 
 use crate::faults::ShellFault;
@@ -8,7 +10,7 @@ use crate::shells::{Shell, write_out};
 use assertion::{Assertion, Form};
 use delta::View;
 use replay::ProgramFault;
-use report::Report;
+use report::{write_commits, write_refused, write_serial_order};
 use std::alloc::{AllocError, Global};
 use std::io::Write;
 use table::{Catalog, Schema};
@@ -66,22 +68,15 @@ pub fn tell<W: Write>(shell: &Shell, command: Command, out: &mut W) -> Result<()
     }
 }
 
-#[tactic(auto, using(crate::proofs::Refusals::late_output))]
 fn tell_history<W: Write>(shell: &Shell, out: &mut W) -> Result<(), ShellFault>
-    ensures { IfErr result IsInTheTalk }
+    ensures { IfErr result (λ fault. fault ≡ Run Output) }
 {
-    let mut report = Report::new(shell.alloc);
-    match add_history(shell, &mut report) {
-        Ok(()) => write_out(report.as_bytes(), out),
-        Err(_) => Err(ShellFault::Run(ProgramFault::Stopped)),
-    }
-}
-
-fn add_history(shell: &Shell, report: &mut Report) -> Result<(), AllocError> {
     let core = shell.engine.core();
-    report.add_commits(core.records())?;
-    report.add_serial_order(core.serial_order())?;
-    report.add_refused(core.refused())
+    write_commits(core.records(), out)?;
+    write_serial_order(core.serial_order(), out)?;
+    write_refused(core.refused(), out)?;
+    out.flush()?;
+    Ok(())
 }
 
 /// Each table with its columns, and how many rows it has.

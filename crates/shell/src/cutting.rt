@@ -1,10 +1,10 @@
 //! The input, cut into pieces.
 
-ghost use Rattle.std.specs.Prelude.{◌≡◌, ◌≢◌, ◌-◌, true, false, ℕ, List, [], length, take, IfErr, IfOk, OnErr};
+ghost use Rattle.std.specs.Prelude.{◌≡◌, ◌≢◌, ◌-◌, true, false, ℕ, List, [], length, take, OnOk};
 ghost use Rattle.std.specs.Io.KnownBytes.{IsAtEnd};
 ghost use Rattle.shell.specs.declared.cutting.Place.TheVariants.{End};
 ghost use Rattle.shell.specs.Cuts.{after, behind, forward, no_rest, scan};
-ghost use Rattle.shell.specs.Reading.{ReadsOn, ReadsSome};
+ghost use Rattle.shell.specs.Reading.{ReadsOn};
 
 use std::alloc::Global;
 use std::io;
@@ -105,21 +105,20 @@ impl Cutter {
         }
     }
 
-    /// Reads on up to the next semicolon, or to the end of the input, and says whether anything was left to read.
-    ///
-    /// # Errors
-    ///
-    /// That of the reader, or want of memory.
-    pub fn read_on<R: BufRead>(&mut self, input: &mut R) -> io::Result<bool>
-        ensures read { IfOk result (λ more.
-            ReadsOn self.old self.new more (R.remaining input.old) (R.remaining input.new)) }
-        ensures end { IfOk result (λ more. more ≡ false → IsAtEnd (R.remaining input.old)) }
-        ensures some { OnErr result (ReadsSome (R.remaining input.old) (R.remaining input.new)) }
+    /// Reads on up to the next semicolon, or to the end of the input, and says whether anything was read. It was, up to
+    /// there, where the reader then failed: its error, or want of memory, stands beside.
+    pub fn read_on<R: BufRead>(&mut self, input: &mut R) -> (bool, io::Result<()>)
+        ensures read { ReadsOn self.old self.new result.0 (R.remaining input.old) (R.remaining input.new) }
+        ensures end { OnOk result.1 (result.0 ≡ false → IsAtEnd (R.remaining input.old)) }
     {
         let before = self.bytes.len();
-        let count = input.read_until(b';', &mut self.bytes)?;
+        let read = input.read_until(b';', &mut self.bytes);
         self.place = scan(self.place, &self.bytes[before..]);
-        Ok(count > 0)
+        let more = self.bytes.len() > before;
+        match read {
+            Ok(_) => (more, Ok(())),
+            Err(error) => (more, Err(error)),
+        }
     }
 
     /// Whether the last byte is the semicolon that ends a piece.

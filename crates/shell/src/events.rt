@@ -1,20 +1,22 @@
 //! A piece is answered.
 
-ghost use Rattle.std.specs.Prelude.{◌≡◌, ◌++◌, false, IfErr, IfOk, OnErr, OnOk};
+ghost use Rattle.std.specs.Prelude.{◌≡◌, false, IfErr, IfOk, OnErr, OnOk};
 ghost use Rattle.shell.specs.Cuts as cut;
 ghost use Rattle.shell.specs.Headings as heading;
 ghost use Rattle.shell.specs.Outcomes as spec;
 ghost use Rattle.shell.specs.Outcomes.{IsBreak, IsFaultOf, IsLineOf};
 ghost use Rattle.shell.specs.Seats.{engine_with_seat};
-ghost use Rattle.shell.specs.Writing.{Breaks, IsAnsweredNow, Responds};
+ghost use Rattle.shell.specs.Writing.{Answers, Breaks, IsAnsweredNow};
 
 use crate::headings::{is_blank, read_address};
 use alone::Answer;
 use commit::Engine;
 use parse::parse_statement;
 use replay::MOST_SESSIONS;
-use report::Report;
+use report::{write_refusal, write_reply};
 use std::alloc::{AllocError, Global};
+use std::io;
+use std::io::Write;
 use syntax::ScriptLine;
 use value::{Refusal, Text};
 
@@ -95,29 +97,30 @@ fn run_piece(
     Ok((line, answer))
 }
 
-/// Answers a piece, and adds its line.
-#[tactic(auto, using(crate::proofs::Refusals::responds_blank, crate::proofs::Refusals::responds_fault))]
-pub fn answer_piece(
+/// Answers a piece, and writes its line.
+#[tactic(auto, using(crate::proofs::Refusals::answers_blank, crate::proofs::Refusals::answers_fault))]
+pub fn answer_piece<W: Write>(
     alloc: Global,
     engine: &mut Engine,
     at: usize,
     bytes: &[u8],
-    report: &mut Report,
-) -> Result<(), AllocError>
+    out: &mut W,
+) -> io::Result<()>
     ensures { OnOk result
-        (Responds engine.old (record { at = at; bytes = bytes.now }) engine.new report.old report.new) }
+        (Answers engine.old (record { at = at; bytes = bytes.now }) engine.new (W.contents out.old)
+        (W.contents out.new)) }
 {
     if is_blank(bytes) {
         return Ok(());
     }
     match run_piece(alloc, engine, at, bytes) {
         Ok((line, answer)) => {
-            let added = report.add_answer(&line, &answer);
+            let written = write_reply(&line, &answer, out);
             drop(answer);
             drop(line);
-            added
+            written
         }
-        Err(refusal) => report.add_refusal(NAME, &refusal),
+        Err(refusal) => write_refusal(NAME, &refusal, out),
     }
 }
 
@@ -144,19 +147,15 @@ fn refuse_rest(alloc: Global, at: usize, bytes: &[u8]) -> Refusal
     }
 }
 
-/// Adds the line of what is left at the end of the input.
+/// Writes the line of what is left at the end of the input.
 #[tactic(auto, using(crate::proofs::Refusals::breaks_blank))]
-pub fn answer_rest(
-    alloc: Global,
-    at: usize,
-    bytes: &[u8],
-    report: &mut Report,
-) -> Result<(), AllocError>
-    ensures { OnOk result (Breaks (record { at = at; bytes = bytes.now }) report.old report.new) }
+pub fn answer_rest<W: Write>(alloc: Global, at: usize, bytes: &[u8], out: &mut W) -> io::Result<()>
+    ensures { OnOk result
+        (Breaks (record { at = at; bytes = bytes.now }) (W.contents out.old) (W.contents out.new)) }
 {
     if is_blank(bytes) {
         return Ok(());
     }
     let refusal = refuse_rest(alloc, at, bytes);
-    report.add_refusal(NAME, &refusal)
+    write_refusal(NAME, &refusal, out)
 }

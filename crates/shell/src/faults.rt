@@ -1,6 +1,11 @@
 //! Why the shell did not come to its end.
 
+ghost use Rattle.std.specs.Prelude.{◌≡◌};
+ghost use Rattle.replay.specs.declared.faults.ProgramFault.TheVariants.{Output};
+ghost use Rattle.shell.specs.declared.faults.ShellFault.TheVariants.{Run};
+
 use replay::ProgramFault;
+use std::io;
 use thiserror::Error;
 
 /// Why the shell did not come to its end.
@@ -12,4 +17,12 @@ pub enum ShellFault {
     /// The reader failed. All events that came before were answered.
     #[error("the input can't be read")]
     Input,
+}
+
+impl From<io::Error> for ShellFault {
+    ghost from_gives = { λ _ fault. fault ≡ Run Output };
+
+    fn from(_error: io::Error) -> ShellFault {
+        ShellFault::Run(ProgramFault::Output)
+    }
 }

@@ -25,7 +25,7 @@ pub fn end_run<W: Write, E: Write>(
     } else {
         String::new(alloc)
     };
-    let status = end_with_status(alloc, run, streams.out, streams.err);
+    let status = end_with_status(run, streams.out, streams.err);
     let _ = streams.err.write_all(drawn.as_bytes());
     status
 }
@@ -50,7 +50,6 @@ fn picture_of(alloc: Global, run: &Result<(), ProgramFault>, texts: &Texts<'_>) 
 /// The status to end with. A fault is said in one line on `err`; one of the writer is not, nor a session without a
 /// thread, of which a line of the report says it.
 fn end_with_status<W: Write, E: Write>(
-    alloc: Global,
     run: Result<(), ProgramFault>,
     out: &mut W,
     err: &mut E,
@@ -62,8 +61,8 @@ fn end_with_status<W: Write, E: Write>(
 {
     match run {
         Ok(()) => WELL,
-        Err(ProgramFault::Defs(refusal)) => report_refused(alloc, "DEFS", &refusal, err),
-        Err(ProgramFault::Script(refusal)) => report_refused(alloc, "SCRIPT", &refusal, err),
+        Err(ProgramFault::Defs(refusal)) => report_refused("DEFS", &refusal, err),
+        Err(ProgramFault::Script(refusal)) => report_refused("SCRIPT", &refusal, err),
         Err(ProgramFault::Stopped) => {
             let _ = out.flush();
             let _ = err.write_all(b"SCRIPT: STOPPED 1 - NO MEMORY\n");

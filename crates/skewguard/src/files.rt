@@ -1,14 +1,16 @@
 //! The texts, the streams, and the statuses to end with.
 
-ghost use Rattle.std.specs.Prelude.{◌≡◌, ◌≤◌, ◌⊎◌, IfErr};
+ghost use Rattle.std.specs.Prelude.{◌≡◌, ◌≢◌, ◌≤◌, ◌⊎◌, IfErr};
+ghost use Rattle.std.specs.IoError.{error_kind};
+ghost use Rattle.std.specs.declared.io.ErrorKind.TheVariants.{OutOfMemory};
 ghost use Rattle.replay.specs.declared.files.ReadFault.TheVariants.{NoMemory, Unreadable};
 
 use crate::signs::Sign;
 use checkup::{Colour, NamedText};
 use replay::{ReadFault, fault_of, read_all};
-use report::Report;
-use std::alloc::Global;
+use report::write_refusal;
 use std::fs::File;
+use std::io;
 use std::io::Write;
 use std::rt::Files;
 use value::Refusal;
@@ -78,7 +80,7 @@ where
 {
     match read(rt, path) {
         Ok(bytes) => Ok(Source { name: path, bytes }),
-        Err(fault) => Err(report_unread(rt.alloc(), place, fault, err)),
+        Err(fault) => Err(report_unread(place, fault, err)),
     }
 }
 
@@ -98,14 +100,30 @@ pub fn report_no_memory<E: Write>(err: &mut E) -> u8
     REFUSED
 }
 
+/// Says why the words of the command line were not read, and gives the status to end with: one of them is not UTF-8, as
+/// `clap` says it, or there was no memory for them.
+pub fn report_unread_words<E: Write>(error: &io::Error, err: &mut E) -> u8
+    ensures no_memory { error_kind error.now ≡ OutOfMemory → result ≡ 1 }
+    ensures not_utf8 { error_kind error.now ≢ OutOfMemory → result ≡ 2 }
+    ensures either { (result ≡ 1) ⊎ (result ≡ 2) }
+{
+    match fault_of(error) {
+        ReadFault::NoMemory => report_no_memory(err),
+        ReadFault::Unreadable => {
+            let _ = err.write_all(b"error: invalid UTF-8 was detected in one or more arguments\n");
+            USAGE
+        }
+    }
+}
+
 /// Says that a file was not read, and gives the status to end with.
-fn report_unread<E: Write>(alloc: Global, name: &str, fault: ReadFault, err: &mut E) -> u8
+fn report_unread<E: Write>(name: &str, fault: ReadFault, err: &mut E) -> u8
     ensures unreadable { fault ≡ Unreadable → result ≡ 3 }
     ensures no_memory { fault ≡ NoMemory → result ≡ 1 }
     ensures either { (result ≡ 1) ⊎ (result ≡ 3) }
 {
     match fault {
-        ReadFault::NoMemory => report_refused(alloc, name, &Refusal::NoMemory, err),
+        ReadFault::NoMemory => report_refused(name, &Refusal::NoMemory, err),
         ReadFault::Unreadable => {
             let _ = err.write_all(name.as_bytes());
             let _ = err.write_all(b": UNREADABLE\n");
@@ -115,15 +133,9 @@ fn report_unread<E: Write>(alloc: Global, name: &str, fault: ReadFault, err: &mu
 }
 
 /// Says why a text was refused, and gives the status to end with.
-pub fn report_refused<E: Write>(alloc: Global, name: &str, refusal: &Refusal, err: &mut E) -> u8
+pub fn report_refused<E: Write>(name: &str, refusal: &Refusal, err: &mut E) -> u8
     ensures { result ≡ 1 }
 {
-    let mut line = Report::new(alloc);
-    if line.add_refusal(name, refusal).is_ok() {
-        let _ = err.write_all(line.as_bytes());
-    } else {
-        let _ = err.write_all(name.as_bytes());
-        let _ = err.write_all(b": REFUSED 1 - NO MEMORY\n");
-    }
+    let _ = write_refusal(name, refusal, err);
     REFUSED
 }

@@ -6,7 +6,7 @@ ghost use denote.Param.Send.{IsSync};
 use crate::checks::check;
 use crate::commands::make_command;
 use crate::explanations::{draw, explain};
-use crate::files::{OUTSIDE, Streams, USAGE, WELL, report_no_memory};
+use crate::files::{OUTSIDE, Streams, USAGE, WELL, report_no_memory, report_unread_words};
 use crate::runs::{Way, run};
 use crate::shells::serve;
 use crate::signs::Task;
@@ -33,7 +33,7 @@ where
             Ok(words) => words,
             Err(_) => return report_no_memory(streams.err),
         },
-        Err(_) => return report_no_memory(streams.err),
+        Err(error) => return report_unread_words(&error, streams.err),
     };
     let command = match make_command(alloc) {
         Ok(command) => command,

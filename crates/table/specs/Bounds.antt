@@ -14,9 +14,18 @@ use Rattle.table.specs.Slots.{magnitude, limit}
 abbrev pub IsSmallRow : RowValues → Type 0
 IsSmallRow row = All (λ v. magnitude v ≤ 10 ^ 15) row
 
--- the bound of a slot; one that isn't there holds NULL, and has the bound of a column
+-- the bound of what a column holds
+abbrev pub column_limit : ℕ
+column_limit = 2 ^ 50
+
+-- The slots of a WHERE within a row, by their kinds. Each holds a value of the row around it: none is listed, since what
+-- isn't listed is bounded as a column is.
+abbrev pub slots_around : List SlotKind
+slots_around = []
+
+-- the bound of a slot; one that isn't listed holds what a column of the row around holds, or NULL
 abbrev pub limit_at : List SlotKind → ℕ → ℕ
-limit_at kinds slot = slice_index_or (map limit kinds) slot (2 ^ 50)
+limit_at kinds slot = slice_index_or (map limit kinds) slot column_limit
 
 -- the bounds of parts joined by an operation, from the left; none where one is missing or a step passes 2^126
 abbrev pub joined_bound : (ℕ → ℕ → ℕ) → ℕ → List (Option ℕ) → Option ℕ
@@ -27,7 +36,7 @@ joined_bound f so_far (Some b ∷ rest) = if nat_le (f so_far b) (2 ^ 126) then 
 -- one expression, with the bound of each part in its place
 abbrev pub bound_step : List SlotKind → Expr-F (Option ℕ) → Option ℕ
 bound_step kinds (Expr-F.Literal v) = Some (magnitude v)
-bound_step kinds (Expr-F.Column column) = Some (2 ^ 50)
+bound_step kinds (Expr-F.Column column) = Some column_limit
 bound_step kinds (Expr-F.Slot slot) = Some (limit_at kinds slot)
 bound_step kinds (Expr-F.Negation part) = part
 bound_step kinds (Expr-F.Sum parts) = joined_bound (λ a b. a + b) 0 parts

@@ -31,7 +31,7 @@
 //!   one part, so that it is never taken for an equality that was written as one. NOT BETWEEN and NOT IN are the
 //!   negations.
 //! - `keeps` is the test of WHERE and HAVING, which keep a row or a group only where the condition is true; `passes`
-//!   is that of a WHERE, which has no slots.
+//!   is that of a statement's WHERE, which has no slots.
 //!
 //! **Width.** That arithmetic is exact needs a bound, and a bound that depends on no table (this project's choice):
 //! an expression's `bound` is a literal's magnitude, 2^50 for a column, MIN or MAX, 2^64 for COUNT and 2^114 for SUM;

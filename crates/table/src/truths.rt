@@ -26,7 +26,7 @@ pub fn keeps(cond: &Cond, row: &Row, slots: &Slots) -> bool
     eval(cond, row, slots).is(Truth::True)
 }
 
-/// Whether WHERE keeps the row: its condition has no slots. It takes no memory.
+/// Whether a WHERE keeps the row, where its slots, if it has any, hold nothing. It takes no memory.
 pub fn passes(alloc: Global, cond: &Cond, row: &Row) -> bool
     requires bounded { IsTrue (is_bounded [] cond.now) }
     requires small { IsSmallRow row.now }

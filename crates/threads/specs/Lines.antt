@@ -11,7 +11,7 @@ use Rattle.alone.specs.Resolve.{resolution_of}
 use Rattle.txn.specs.Transactions.{step_of, with_statement}
 use Rattle.commit.specs.Events.{answer_of}
 use Rattle.session.specs.Books.{TicketedTransaction}
-use Rattle.session.specs.Answers.{IsGivenBack, IsRefused}
+use Rattle.session.specs.Answers.{IsNotBegun, IsRefused}
 
 -- outside a transaction everything but BEGIN is refused
 abbrev pub IsOutside : Answer → Option TicketedTransaction → Type 0
@@ -21,7 +21,7 @@ IsOutside answer txn = (answer ≡ Refused NoTransaction) × (txn ≡ None)
 -- seen. Which transactions are so is said by the manager, of those that are read only and of the others.
 abbrev pub IsBegun : (IsNew : TicketedTransaction → Type 0) → (seen : ℕ) → Answer → Option TicketedTransaction → Type 0
 IsBegun IsNew seen (Begun number) (Some t) = (number ≡ t.inner.snapshot) × (seen ≤ number) × IsNew t
-IsBegun IsNew seen (Refused refusal) None = IsGivenBack refusal
+IsBegun IsNew seen (Refused refusal) None = IsNotBegun refusal
 IsBegun IsNew seen answer txn = ⊥
 
 -- a statement is answered as alone in the transaction, whose trace then holds it; or it found no memory, and

@@ -36,12 +36,10 @@ use value::Refusal;
 /// The first fault in the order of the work: [`ProgramFault::Defs`] where the definitions are no text of their
 /// grammar; [`ProgramFault::Script`] where the script is none of its own; `Defs` again where the definitions are
 /// refused; `Script` of [`Refusal::TooManySessions`] where the script has more than 256 sessions. After each of
-/// these the writer is as it was, and nothing was run. Then [`ProgramFault::Stopped`] where there is no memory for
-/// the lines of the report, of which none is written, so that the writer is as it was here too (it would also be
-/// answered if what lies under the manager's lock were another's, which no call brings about);
-/// [`ProgramFault::Output`] at the first fault of the writer, which may have taken a part of the report; and
-/// [`ProgramFault::NoThread`] where a session got no thread or no place, of which its one line says why: the whole
-/// report was then written.
+/// these the writer is as it was, and nothing was run. Then [`ProgramFault::Output`] at the first fault of the writer,
+/// which may have taken a part of the report; and [`ProgramFault::NoThread`] where a session got no thread or no place,
+/// of which its one line says why: the whole report was then written. [`ProgramFault::Stopped`] would be answered if
+/// what lies under the manager's lock were another's, which no call brings about: nothing was then written.
 #[tactic(auto, using(crate::proofs::Reporting::first_fault, crate::proofs::Reporting::nothing_before, crate::proofs::Reporting::no_room))]
 pub fn threads_into<N, R, G, W>(
     rt: &R,
@@ -76,17 +74,8 @@ where
         Ok(answered) => answered,
         Err(_) => return Err(ProgramFault::Script(Refusal::NoMemory)),
     };
-    let history = match manager.close() {
-        Ok(history) => history,
-        Err(_) => return Err(ProgramFault::Stopped),
-    };
-    let printed = print_report(
-        alloc,
-        &history,
-        scripts.as_slice(),
-        answered.as_slice(),
-        out,
-    );
+    let history = manager.close();
+    let printed = print_report(&history, scripts.as_slice(), answered.as_slice(), out);
     drop(history);
     drop(answered);
     drop(scripts);

@@ -4,3 +4,4 @@ mod Naming
 mod Putting
 pub mod Fits
 pub mod Fitting
+mod Truths

@@ -1,5 +1,5 @@
 -- An open transaction: what it began on, and what it has run so far. Its own view and its modes are what that leaves.
-use Rattle.std.specs.Prelude.{ℕ, Bool, List, [], ◌∷◌, ◌++◌, flat_map, if◌then◌else◌, Option, Some, None}
+use Rattle.std.specs.Prelude.{ℕ, Bool, List, [], ◌∷◌, ◌++◌, flat_map, map, if◌then◌else◌, Option, Some, None}
 use Rattle.value.specs.declared.truths.Truth.{Truth}
 use Rattle.value.specs.declared.truths.Truth.TheVariants.{False}
 use Rattle.value.specs.Truths.{is_of}
@@ -75,6 +75,11 @@ name_if_false shown a = if is_false_on shown a then a.name ∷ [] else []
 -- the names of the assertions that are false there, in the order of their creation
 abbrev pub false_names : ViewState → List (List ℕ)
 false_names shown = flat_map (name_if_false shown) shown.declared.assertions
+
+-- the truth of each assertion there, in the order of their creation
+abbrev pub truths_on : ViewState → List Truth
+truths_on shown =
+    map (λ (a : Assertion). verdict_of (layouts_in shown.declared) a.form shown.state) shown.declared.assertions
 
 -- the truth of the assertion of a name there
 abbrev pub truth_of : ViewState → Option Assertion → Option Truth

@@ -9,7 +9,7 @@ ghost use Rattle.assertion.specs.Declarations.{layouts_in};
 ghost use Rattle.alone.specs.Modes.{assertion_of, immediate_ones};
 ghost use Rattle.alone.specs.Checks.{violation};
 ghost use Rattle.txn.specs.Checks.{least_bad_if_meant};
-ghost use Rattle.txn.specs.Transactions.{false_names, name_if_false, truth_of};
+ghost use Rattle.txn.specs.Transactions.{false_names, name_if_false, truth_of, truths_on};
 
 use alone::Modes;
 use assertion::Assertion;
@@ -110,6 +110,17 @@ pub fn verdict_on(view: &View, name: &Text) -> Option<Truth>
         }
         None => None,
     }
+}
+
+/// The truth of each assertion on a view, in the order of their creation.
+pub fn list_truths(alloc: Global, view: &View) -> Result<Vec<Truth>, AllocError>
+    ensures { IfOk result (λ found. found.items ≡ truths_on view.now) }
+{
+    let mut found = Vec::new(alloc);
+    for place in 0..view.assertions().len() {
+        found.push(view.verdict(place))?;
+    }
+    Ok(found)
 }
 
 /// The names of the assertions that are false on a view, in the order of their creation.

@@ -3,6 +3,8 @@
 
 ghost use Rattle.std.specs.Prelude.{◌≡◌, IfOk};
 
+use crate::traces::copy_trace;
+use alone::Record;
 use siread::LockKey;
 use sqlite_items::Items;
 use std::alloc::{AllocError, Global};
@@ -94,6 +96,21 @@ pub fn copy_reads(alloc: Global, reads: &[LockKey]) -> Result<Items<LockKey>, Al
     ensures { IfOk result (λ copy. copy ≡ reads.now) }
 {
     copy_all(alloc, reads)
+}
+
+/// A record equal to this one.
+pub fn copy_record(alloc: Global, commit: &Record) -> Result<Record, AllocError>
+    ensures { IfOk result (λ copy. copy ≡ commit.now) }
+{
+    Ok(Record {
+        number: commit.number,
+        snapshot: commit.snapshot,
+        read_only: commit.read_only,
+        session: commit.session.copy()?,
+        trace: copy_trace(alloc, commit.trace.as_slice())?,
+        reads: copy_reads(alloc, commit.reads.as_slice())?,
+        changes: copy_changes(alloc, commit.changes.as_slice())?,
+    })
 }
 
 impl Part for Change {

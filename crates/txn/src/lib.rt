@@ -57,14 +57,15 @@ mod checks;
 mod closed;
 mod copies;
 mod effects;
+pub mod laws;
 mod resolutions;
 mod steps;
 mod traces;
 mod txns;
 
-pub use checks::{find_false, find_first_false, find_violation, verdict_on};
+pub use checks::{find_false, find_first_false, find_violation, list_truths, verdict_on};
 pub use closed::{CloseFailure, ClosedTransaction, Parts};
-pub use copies::copy_changes;
+pub use copies::{copy_changes, copy_record};
 pub use effects::{Effect, delete_effect, filter_on, insert_effect, recall_order, update_effect};
 pub use resolutions::{resolve, unless_memory};
 pub use txns::Txn;

@@ -20,15 +20,15 @@ pub returns-clause-written : goal.returns-clause-written
 returns-clause-written g c =
     let scripts = c.in_ok-manager.scripts.items in
     let found = c.in-Ok.answered.items in
-    let history = c.in-Ok-close.history in
+    let history = c.close-history.result in
     let limits = g.N.Named.limits in
     let printed = c.print_report-printed.result in
     let old = g.W.Write.contents c.args.out.now in
     let new = g.W.Write.contents c.print_report-printed.new.out in
     let answered : AreAnswered scripts found =
     subst (λ lent. AreAnswered lent found) c.as_slice.ensures.value c.in-Ok.ensures in
-    let loaded = ap (λ (t : Token). t.value.view) c.in-Ok-close.ensures.loaded in
-    let limit = ap (λ n. (limits n).commits) (c.in-Ok-close.ensures.whose.0 ∙ c.in_ok-manager.ensures.id) ∙ ap (λ (l : LimitsState). l.commits) c.requires.limits in
+    let loaded = ap (λ (t : Token). t.value.view) c.close-history.ensures.loaded in
+    let limit = ap (λ n. (limits n).commits) (c.close-history.ensures.whose.0 ∙ c.in_ok-manager.ensures.id) ∙ ap (λ (l : LimitsState). l.commits) c.requires.limits in
     reports _ _ _ _ _ c.in_ok-manager.ensures.opened printed found old new answered
     (subst (λ n. OnOk printed (PrintsGrouped scripts found c.in_ok-manager.manager.loaded.value.view n true old new)) limit
     (subst (λ view. OnOk printed (PrintsGrouped scripts found view (limits history.id).commits true old new)) loaded
@@ -40,15 +40,15 @@ pub returns-clause-no_thread : goal.returns-clause-no_thread
 returns-clause-no_thread g c =
     let scripts = c.in_ok-manager.scripts.items in
     let found = c.in-Ok.answered.items in
-    let history = c.in-Ok-close.history in
+    let history = c.close-history.result in
     let limits = g.N.Named.limits in
     let printed = c.print_report-printed.result in
     let old = g.W.Write.contents c.args.out.now in
     let new = g.W.Write.contents c.print_report-printed.new.out in
     let answered : AreAnswered scripts found =
     subst (λ lent. AreAnswered lent found) c.as_slice.ensures.value c.in-Ok.ensures in
-    let loaded = ap (λ (t : Token). t.value.view) c.in-Ok-close.ensures.loaded in
-    let limit = ap (λ n. (limits n).commits) (c.in-Ok-close.ensures.whose.0 ∙ c.in_ok-manager.ensures.id) ∙ ap (λ (l : LimitsState). l.commits) c.requires.limits in
+    let loaded = ap (λ (t : Token). t.value.view) c.close-history.ensures.loaded in
+    let limit = ap (λ n. (limits n).commits) (c.close-history.ensures.whose.0 ∙ c.in_ok-manager.ensures.id) ∙ ap (λ (l : LimitsState). l.commits) c.requires.limits in
     reports_unrun _ _ _ _ _ c.in_ok-manager.ensures.opened printed found old new answered
     (subst (λ n. IfErr printed (λ fault. fault ≡ NoThread → PrintsGrouped scripts found c.in_ok-manager.manager.loaded.value.view n false old new)) limit
     (subst (λ view. IfErr printed (λ fault. fault ≡ NoThread → PrintsGrouped scripts found view (limits history.id).commits false old new)) loaded

@@ -1,2 +1,0 @@
-mod Histories
-mod Running
