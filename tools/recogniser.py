@@ -1,17 +1,20 @@
 #!/usr/bin/env python3
-"""A plain recogniser of the whole language, to hold the parser's places against.
+"""Holds the program's parser against a plain recogniser of the whole language.
 
-It knows the written grammar as data and tries every way on at once (Earley 1970): a text of tokens begins some text of the
-language exactly while the chart is not empty. It shares no code and no idea with the parser in crates/parse.
+    tools/recogniser.py PROGRAM [COUNT]
 
-    recogniser.py texts > crates/parse_text/data/texts       short texts, made from the grammar and then spoilt
-    recogniser.py answers < crates/parse_text/data/texts     what the parser has to say of each
-
-A line of the texts is a letter (S a script, D definitions, E an event), a space and the text.
+runs the program on COUNT short texts (400 without it), of definitions or of a script, each made from the grammar and
+then spoilt. Of each the program has to say that it is of the language, or to name its first wrong byte as the
+recogniser does. That one knows the written grammar as data and tries every way on at once (Earley 1970): a text of
+tokens begins some text of the language exactly while the chart is not empty. It shares no code and no idea with the
+parser in crates/parse.
 """
+import pathlib
 import random
 import re
+import subprocess
 import sys
+import tempfile
 
 RESERVED = set("""ALL AND AS ASSERTION BEGIN BETWEEN BY CHECK COMMIT CONSTRAINTS COUNT CREATE DEFERRABLE DEFERRED DELETE EXISTS FALSE FROM
 GROUP HAVING IMMEDIATE IN INITIALLY INSERT INT INTEGER INTO IS KEY MAX MIN NOT NULL ONLY OR PRIMARY READ ROLLBACK SELECT SET SUM
@@ -75,6 +78,7 @@ for rule in RULES.strip().splitlines():
         GRAMMAR.setdefault(head, []).append(tuple(way.split()))
 KINDS = {'name', 'number', 'width', 'text'}
 START = {'S': 'script', 'D': 'defs', 'E': 'event'}
+FAULT = re.compile(r'(?:DEFS|SCRIPT): REFUSED \d+ - SYNTAX (\d+)$|.* TOO DEEP .*$', re.MULTILINE)
 
 TOKEN = re.compile(r"(?P<word>[A-Za-z][A-Za-z0-9_]*)|(?P<number>[0-9]+)|(?P<text>'(?:[ -&(-~]|'')*')|(?P<mark><>|<=|>=|[(),;:.*+\-=<>])")
 
@@ -178,24 +182,42 @@ def spoilt(rng, spellings):
 
 
 def texts(count):
+    """Short texts with the letter of what they are: D definitions, S a script. An event is the one of a script."""
     rng, seen = random.Random(1992), set()
     while len(seen) < count:
         letter = rng.choice('SSDDE')
         text = ' '.join(spoilt(rng, made(rng, START[letter])))
+        if letter == 'E':
+            letter, text = 'S', f'A: {text};'
         if len(text) < 160 and (letter, text) not in seen:
             seen.add((letter, text))
-            print(f'{letter} {text}')
+            yield letter, text
+
+
+def place_named(program, letter, text):
+    """The place that the program names in a text, or None where the text is of the language for it."""
+    with tempfile.TemporaryDirectory() as folder:
+        for name, whose in ('defs.sql', 'D'), ('script.sql', 'S'):
+            pathlib.Path(folder, name).write_text(text if letter == whose else '')
+        done = subprocess.run([program, 'replay', 'defs.sql', 'script.sql'], cwd=folder, capture_output=True, text=True,
+                              timeout=60, check=False)
+    fault = FAULT.search(done.stderr)
+    return None if fault is None else int(fault.group(1) or -1)
 
 
 def main():
-    if sys.argv[1:] == ['texts']:
-        texts(400)
-    elif sys.argv[1:] == ['answers']:
-        for line in sys.stdin.read().split('\n')[:-1]:
-            at = place(START[line[0]], line[2:])
-            print('READ' if at is None else f'SYNTAX {at}')
-    else:
+    if len(sys.argv) not in (2, 3):
         sys.exit(__doc__)
+    program, count = str(pathlib.Path(sys.argv[1]).resolve()), int((sys.argv + [400])[2])
+    read = different = 0
+    for letter, text in texts(count):
+        expected, named = place(START[letter], text), place_named(program, letter, text)
+        read += expected is None
+        if named != expected:
+            different += 1
+            print(f'{letter} {text}\n  the recogniser: {expected}; the program: {named}')
+    print(f'{count} texts, {read} of the language: {different} differ')
+    sys.exit(different > 0)
 
 
 main()
