@@ -1,9 +1,7 @@
 //! Lines of the report that no run prints, each by its bytes.
 
 use alone::{Record, RefusedCommit};
-use report::{
-    write_commit, write_count, write_refusal, write_refused_commit, write_verdict,
-};
+use report::{write_commit, write_count, write_refusal, write_refused_commit, write_verdict};
 use sqlite_items::Items;
 use std::alloc::Global;
 use std::process::Abort;

@@ -99,7 +99,11 @@ const LEDGER: &str = "CREATE TABLE ACCT (ID INTEGER PRIMARY KEY, OWNER VARCHAR(8
 fn pending_is_what_the_deferred_insert_made_false(rt: HostRuntime) -> Result<(), Fail> {
     let funds = Text::from_str(rt.alloc(), "FUNDS")?;
     let mut txn = begun(rt.alloc(), LEDGER)?;
-    let told = printed(rt.alloc(), &mut txn, "A: INSERT INTO ACCT VALUES (2, 'KIM', -7);");
+    let told = printed(
+        rt.alloc(),
+        &mut txn,
+        "A: INSERT INTO ACCT VALUES (2, 'KIM', -7);",
+    );
     let pending = txn.pending();
     drop(txn);
     assert_eq!(rt; told?.as_slice(), b"A: INSERT 1\n".as_slice());

@@ -143,7 +143,10 @@ fn events_before_a_fault_of_the_reader(rt: HostRuntime) -> Result<(), Fail> {
         assert!(rt; matches!(talk, Err(ShellFault::Input)));
         let read = fails_at.saturating_mul(7).min(script.len());
         assert!(rt; answers.starts_with(out.as_slice()));
-        assert_eq!(rt; count_of(b'\n', out.as_slice()), count_of(b';', &script[..read]));
+        assert_eq!(rt;
+            count_of(b'\n', out.as_slice()),
+            count_of(b';', &script[..read])
+        );
     }
     Err(Fail::from("each talk met a fault of the reader"))
 }
