@@ -105,7 +105,7 @@ fn pending_is_what_the_deferred_insert_made_false(rt: HostRuntime) -> Result<(),
         "A: INSERT INTO ACCT VALUES (2, 'KIM', -7);",
     );
     let pending = txn.pending();
-    drop(txn);
+    drop(txn.abandon());
     assert_eq!(rt; told?.as_slice(), b"A: INSERT 1\n".as_slice());
     assert!(rt; is_only(&pending?, &funds));
     Ok(())
