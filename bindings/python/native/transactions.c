@@ -269,8 +269,8 @@ static void roll_back_quietly(TransactionObject *it)
 static PyObject *transaction_exit(PyObject *self, PyObject *args)
 {
     TransactionObject *it = (TransactionObject *)self;
-    PyObject *kind = PyTuple_GetItem(args, 0);
-    if (!kind)
+    PyObject *kind, *value, *traceback;
+    if (!PyArg_UnpackTuple(args, "__exit__", 3, 3, &kind, &value, &traceback))
         return NULL;
     if (atomic_load(&it->state) == IS_OPEN && kind == Py_None)
         finish_or_raise(it, SKEWGUARD_DO_COMMIT);
@@ -310,31 +310,40 @@ static void keep(EngineObject *it, PyObject *text, const Reply *reply, Statement
         engine_ask_of(&it->engine, SKEWGUARD_DO_FORGET, gone->number);
 }
 
-static int prepare(EngineObject *it, PyObject *text)
+/* Asks for a statement, which is kept under a text. 0 with a Python exception; else the status is in the reply. */
+static int ask_to_prepare(EngineObject *it, PyObject *text, PyObject *statement, Reply *reply)
 {
     Statement gone = {0};
-    Reply reply;
-    int32_t status;
-    PyObject *bytes = PyObject_CallFunctionObjArgs(helpers.text_bytes, text, NULL);
+    PyObject *bytes = PyObject_CallFunctionObjArgs(helpers.text_bytes, statement, NULL);
     const char *request = bytes ? PyBytes_AsString(bytes) : NULL;
-    if (!request) {
-        Py_XDECREF(bytes);
-        return 0;
-    }
-    reply_start(&reply, 0);
-    status = enter(it);
-    if (!status) {
-        status = engine_make(&it->engine, &reply, SKEWGUARD_DO_PREPARE, (const unsigned char *)request,
-                             (size_t)PyBytes_Size(bytes));
-        if (!status)
-            keep(it, text, &reply, &gone);
+    reply->status = request ? enter(it) : SKEWGUARD_NO_MEMORY;
+    if (!reply->status) {
+        engine_make(&it->engine, reply, SKEWGUARD_DO_PREPARE, (const unsigned char *)request,
+                    (size_t)PyBytes_Size(bytes));
+        if (!reply->status)
+            keep(it, text, reply, &gone);
         leave(it);
     }
-    if (status && !PyErr_Occurred())
-        raise_status(status, &reply, text);
-    reply_end(&reply);
     statement_clear(&gone);
-    Py_DECREF(bytes);
+    Py_XDECREF(bytes);
+    return !PyErr_Occurred();
+}
+
+/* Prepares the statement of a text. There may be a `;` at its end, with which the library knows no single one. */
+static int prepare(EngineObject *it, PyObject *text)
+{
+    Reply reply;
+    reply_start(&reply, 0);
+    if (ask_to_prepare(it, text, text, &reply) && reply_kind(&reply) == SKEWGUARD_REFUSAL
+        && first_number(&reply) == SKEWGUARD_FAULT_SYNTAX) {
+        PyObject *statement = PyObject_CallFunctionObjArgs(helpers.unended, text, NULL);
+        if (statement && statement != Py_None)
+            ask_to_prepare(it, text, statement, &reply);
+        Py_XDECREF(statement);
+    }
+    if (reply.status && !PyErr_Occurred())
+        raise_status(reply.status, &reply, text);
+    reply_end(&reply);
     return !PyErr_Occurred();
 }
 
