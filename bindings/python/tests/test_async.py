@@ -21,8 +21,14 @@ ADD = "UPDATE P SET N = N + ? WHERE ID = ?"
 class Async(unittest.IsolatedAsyncioTestCase):
     def setUp(self):
         self.pause = 0
-        self.manager = skewguard.open(DEFINITIONS, trace=lambda line: time.sleep(self.pause))
+        self.pauses = 0
+        self.manager = skewguard.open(DEFINITIONS, trace=self.wait)
         self.addCleanup(self.manager.close)
+
+    def wait(self, line):
+        """Has each call take so long."""
+        self.pauses += self.pause > 0
+        time.sleep(self.pause)
 
     def numbers(self):
         with self.manager.transaction(read_only=True) as t:
@@ -99,10 +105,11 @@ class Async(unittest.IsolatedAsyncioTestCase):
         task.cancel()
         self.assertGreater(len(ticks), 10)
 
-    async def cancelled(self, work, after):
-        """Runs a task that is cancelled after so many seconds, and once more at once."""
+    async def cancelled(self, work):
+        """Runs a task that is cancelled in its first call that takes long, and once more at once."""
         task = asyncio.create_task(work())
-        await asyncio.sleep(after)
+        while not self.pauses:
+            await asyncio.sleep(0.001)
         task.cancel()
         await asyncio.sleep(0)
         task.cancel()
@@ -120,7 +127,7 @@ class Async(unittest.IsolatedAsyncioTestCase):
                 await t.execute(ADD, [5, 1])
                 self.fail("it went on")
 
-        await self.cancelled(work, 0.03)
+        await self.cancelled(work)
         self.assertEqual(self.numbers(), [0, 0])
 
     async def test_a_task_that_is_cancelled_as_it_begins(self):
@@ -129,7 +136,7 @@ class Async(unittest.IsolatedAsyncioTestCase):
             async with self.manager.transaction(session="KIM"):
                 self.fail("the block was run")
 
-        await self.cancelled(work, 0.03)
+        await self.cancelled(work)
         self.manager.begin(session="KIM").rollback()
 
     async def test_a_task_that_is_cancelled_as_it_commits(self):
@@ -138,7 +145,7 @@ class Async(unittest.IsolatedAsyncioTestCase):
                 await t.execute(ADD, [5, 1])
                 self.pause = 0.1
 
-        await self.cancelled(work, 0.03)
+        await self.cancelled(work)
         self.assertEqual(self.numbers(), [5, 0])
 
     async def test_functions_with_retries_run_in_a_thread(self):
