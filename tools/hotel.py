@@ -1,7 +1,7 @@
 #!/usr/bin/env python3
 """A hotel's desks on four threads, of which one is interrupted again and again, as by Ctrl-C.
 
-    tools/hotel.py [--minutes 1] [--seed 1]
+    tools/hotel.py [--minutes 1] [--commits 20000] [--seed 1]
 
 Python has to find the package and the library (PYTHONPATH, SKEWGUARD_LIBRARY); SKEWGUARD_CTYPES=1 chooses ctypes.
 
@@ -18,6 +18,7 @@ import contextlib
 import faulthandler
 import gc
 import random
+import signal
 import subprocess
 import sys
 import threading
@@ -44,9 +45,8 @@ RULES = 5
 BEDS = {room: 1 + room % 4 for room in range(1, 9)}
 DESKS = 4
 DAYS = 30
-COMMITS = 20_000
 SESSIONS = 256
-STUCK = 300  # seconds for an epoch, which takes some ten
+STUCK = 300  # seconds without an interrupt, and those for the threads to end
 
 # Sends SIGINT to its parent, as often as it is asked to, at a random moment of the next milliseconds.
 SENDER = """
@@ -176,6 +176,7 @@ def work_interrupted(desk, sender):
     """The same on the main thread, with an interrupt every few milliseconds."""
     is_full = False
     while not is_full:
+        faulthandler.dump_traceback_later(STUCK, exit=True)
         try:
             sender.stdin.write("0.01\n")
             sender.stdin.flush()
@@ -189,8 +190,10 @@ def work_interrupted(desk, sender):
             desk.count["interrupts"] += 1
 
 
-def check(manager, desks):
+def check(manager, desks, commits):
     """What has to hold when the desks have ended."""
+    for desk in desks:
+        desk.connection.rollback()  # which an interrupt may have kept a desk from
     gc.collect()
     held = [manager.begin() for _ in range(SESSIONS)]
     stays, kept = (held[0].execute(f"SELECT * FROM {table}") for table in ("STAYS", "DESKS"))
@@ -205,7 +208,7 @@ def check(manager, desks):
         if not 0 <= row.BOOKED - desk.count["book"] <= desk.count["interrupts"]:
             sys.exit(f"a desk knows of {dict(desk.count)}, and this is stored: {row}")
     report = manager.report().splitlines()
-    if report[0] != f"COMMITS {COMMITS}" or sum(line.endswith(" TRUE") for line in report[-RULES:]) != RULES:
+    if report[0] != f"COMMITS {commits}" or sum(line.endswith(" TRUE") for line in report[-RULES:]) != RULES:
         sys.exit(f"the report begins with {report[0]}, and ends with {report[-RULES:]}")
     manager.checkpoint()
 
@@ -226,25 +229,26 @@ def serve_an_epoch(desks, sender):
 def main():
     words = argparse.ArgumentParser(description=__doc__.splitlines()[0])
     words.add_argument("--minutes", type=float, default=1)
+    words.add_argument("--commits", type=int, default=20_000, help="those of an epoch")
     words.add_argument("--seed", type=int, default=1)
     given = words.parse_args()
     until, epochs, total = time.monotonic() + 60 * given.minutes, 0, collections.Counter()
     rooms = "".join(f"INSERT INTO ROOMS VALUES ({room}, {beds});" for room, beds in BEDS.items())
     counts = "".join(f"INSERT INTO DESKS VALUES ({number}, 0, 0);" for number in range(DESKS))
+    signal.signal(signal.SIGINT, signal.default_int_handler)  # a shell leaves it out for what runs in the background
     with subprocess.Popen([sys.executable, "-c", SENDER], stdin=subprocess.PIPE, text=True) as sender:
-        with skewguard.open(DEFINITIONS + rooms + counts, max_commits=COMMITS) as manager:
+        with skewguard.open(DEFINITIONS + rooms + counts, max_commits=given.commits) as manager:
             desks = [Desk(manager, number, f"{given.seed} {number}") for number in range(DESKS)]
             while not epochs or time.monotonic() < until:
-                faulthandler.dump_traceback_later(STUCK, exit=True)
                 serve_an_epoch(desks, sender)
-                check(manager, desks)
+                check(manager, desks, given.commits)
                 epochs += 1
             faulthandler.cancel_dump_traceback_later()
         sender.stdin.close()
     for desk in desks:
         total.update(desk.count)
     done = ", ".join(f"{what} {count}" for what, count in sorted(total.items()))
-    print(f"{skewguard.IMPLEMENTATION}: {epochs} epochs of {COMMITS} commits; {done}; the rules held")
+    print(f"{skewguard.IMPLEMENTATION}: {epochs} epochs of {given.commits} commits; {done}; the rules held")
 
 
 if __name__ == "__main__":

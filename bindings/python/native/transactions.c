@@ -147,21 +147,52 @@ static int transaction_traverse(PyObject *self, visitproc visit, void *arg)
     return 0;
 }
 
+static int raise_pending(void *error)
+{
+    PyErr_SetObject((PyObject *)Py_TYPE((PyObject *)error), error);
+    Py_DECREF((PyObject *)error);
+    return -1;
+}
+
+/* Raises an interrupt in the main thread once this is over, since Python drops what a finalizer raises. 0 where it
+ * can't. */
+static int raise_later(void)
+{
+    PyObject *type, *value, *traceback;
+    int is_pending;
+    PyErr_Fetch(&type, &value, &traceback);
+    PyErr_NormalizeException(&type, &value, &traceback);
+    is_pending = value && !Py_AddPendingCall(raise_pending, value);
+    if (!is_pending) {
+        PyErr_Restore(type, value, traceback);
+        return 0;
+    }
+    Py_XDECREF(type);
+    Py_XDECREF(traceback);
+    return 1;
+}
+
+/* Warns of a forgotten transaction. Where warnings are errors it is shown, and stops nothing. */
+static void warn(PyObject *self)
+{
+    PyObject *type, *value, *traceback;
+    PyErr_Fetch(&type, &value, &traceback);
+    if (PyErr_ResourceWarning(self, 1, "a transaction was forgotten, and is rolled back")
+        && (PyErr_ExceptionMatches(PyExc_Exception) || !raise_later()))
+        PyErr_WriteUnraisable(NULL);
+    PyErr_Restore(type, value, traceback);
+}
+
 /* Where nobody has an open transaction any more, the next call rolls it back. */
 static void transaction_finalize(PyObject *self)
 {
     TransactionObject *it = (TransactionObject *)self;
-    PyObject *type, *value, *traceback;
     if (atomic_load(&it->state) != IS_OPEN)
         return;
     engine_forget(&it->engine->engine, it->session);
     atomic_store(&it->state, WAS_LOST);
-    if (!it->engine->engine.handle || it->engine->process != process)
-        return;
-    PyErr_Fetch(&type, &value, &traceback);
-    if (PyErr_ResourceWarning(self, 1, "a transaction was forgotten, and is rolled back"))
-        PyErr_WriteUnraisable(NULL);
-    PyErr_Restore(type, value, traceback);
+    if (it->engine->engine.handle && it->engine->process == process)
+        warn(self);
 }
 
 static void transaction_dealloc(PyObject *self)
