@@ -2,6 +2,7 @@
 
 import asyncio
 import gc
+import threading
 import time
 import unittest
 
@@ -22,6 +23,7 @@ class Async(unittest.IsolatedAsyncioTestCase):
     def setUp(self):
         self.pause = 0
         self.pauses = 0
+        self.during = lambda: None
         self.manager = skewguard.open(DEFINITIONS, trace=self.wait)
         self.addCleanup(self.manager.close)
 
@@ -29,6 +31,7 @@ class Async(unittest.IsolatedAsyncioTestCase):
         """Has each call take so long."""
         self.pauses += self.pause > 0
         time.sleep(self.pause)
+        self.during()
 
     def numbers(self):
         with self.manager.transaction(read_only=True) as t:
@@ -91,19 +94,18 @@ class Async(unittest.IsolatedAsyncioTestCase):
         self.assertEqual(self.numbers(), [5 * sum(range(8)), 0])
 
     async def test_the_loop_goes_on(self):
-        ticks = []
+        """Each call waits until the loop has had a turn."""
+        loop, turns = asyncio.get_running_loop(), []
 
-        async def tick():
-            while True:
-                ticks.append(time.monotonic())
-                await asyncio.sleep(0.005)
+        def during():
+            turn = threading.Event()
+            loop.call_soon_threadsafe(turn.set)
+            turns.append(turn.wait(30))
 
-        task = asyncio.create_task(tick())
-        self.pause = 0.05
+        self.during = during
         async with self.manager.transaction() as t:
             await t.execute(ADD, [1, 1])
-        task.cancel()
-        self.assertGreater(len(ticks), 10)
+        self.assertEqual(turns, [True] * 3)
 
     async def cancelled(self, work):
         """Runs a task that is cancelled in its first call that takes long, and once more at once."""
