@@ -36,6 +36,12 @@ EXAMPLES = {
     "booking": "4 guests have a room\nslots: 1209 1210 1211 1212 1213\n",
 }
 
+# The rows that are there for events of docs/LANGUAGE.md over a table T.
+ROWS_OF_T = """CREATE TABLE T (ID INTEGER PRIMARY KEY, N INTEGER);
+INSERT INTO T VALUES (1, 7);
+INSERT INTO T VALUES (2, 7);
+"""
+
 
 def run(words, **how):
     """What a command prints, which has to end well."""
@@ -297,16 +303,27 @@ def rules(known, folder):
             wanted(f"{', '.join(names)} of docs/LANGUAGE.md", truths, f"COMMITS 0\nSERIAL\nREFUSED 0\n{taken}")
 
 
-def answers_of_examples(shown):
+def replayed(events, known, place):
+    """The answers to events over a table T with two rows, without the lines of the rows."""
+    place.mkdir(exist_ok=True)
+    (place / "defs.sql").write_text(ROWS_OF_T, encoding="utf-8")
+    (place / "script.sql").write_text(events, encoding="utf-8")
+    printed = run(["skewguard", "replay", "defs.sql", "script.sql"], cwd=place, env=known)
+    return re.sub("^  .*\n", "", printed, flags=re.MULTILINE)
+
+
+def answers_of_examples(shown, known, folder):
     """The answers beside events in docs/LANGUAGE.md stand one behind the other in what an example prints.
 
-    But for those that are shown otherwise.
+    But for those that are shown otherwise. Events of a table T are replayed.
     """
     printed = [path.read_text(encoding="utf-8") for path in TOP.glob("examples/*/expected.txt")]
     page = (TOP / "docs/LANGUAGE.md").read_text(encoding="utf-8")
     for events in re.findall(r"^```sql\n((?:\w+: .*; +-- .*\n)+)```$", page, re.MULTILINE):
-        answers = "".join(re.findall(r"-- (.+\n)", events))
-        if events not in shown and not any(f"\n{answers}" in f"\n{one}" for one in printed):
+        answers = "".join(re.findall(r"-- (.+\n)", events)).replace(", and the line of the row", "")
+        if " T " in events:
+            wanted("a script of docs/LANGUAGE.md", replayed(events, known, folder / "t")[: len(answers)], answers)
+        elif events not in shown and not any(f"\n{answers}" in f"\n{one}" for one in printed):
             sys.exit(f"no example prints what docs/LANGUAGE.md has:\n{answers}")
 
 
@@ -324,7 +341,7 @@ def page(known, folder, without_rust):
         run_way(name, way, folder / name.replace("/", "_"), unaided(quiet) if name.endswith(".rs") else quiet)
     run_way("script.sql", language["script.sql"], folder / "language", quiet)
     rules(known, folder)
-    answers_of_examples(language["script.sql"].files.values())
+    answers_of_examples(language["script.sql"].files.values(), known, folder)
 
 
 def main():
