@@ -360,7 +360,7 @@ static int ask_to_prepare(EngineObject *it, PyObject *text, PyObject *statement,
     return !PyErr_Occurred();
 }
 
-/* Prepares the statement of a text. There may be a `;` at its end, with which the library knows no single one. */
+/* Prepares the statement of a text. The library takes none with a `;` at its end, as a script has it; here it may. */
 static int prepare(EngineObject *it, PyObject *text)
 {
     Reply reply;
