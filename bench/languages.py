@@ -3,9 +3,15 @@
 
     python3 bench/languages.py [--library FOLDER] [--rows 10000,100000] [--threads 1,4] [--forms "by row,by group"]
                                [--transactions 20000] [--repetitions 5]
+    python3 bench/languages.py --instructions [--library FOLDER] [--rows 1000] [--forms ..] [--transactions 300]
 
-FOLDER has libskewguard.so; without it tools/c_library.py builds it. It needs a C compiler and libsqlite3-dev. The
-table that docs/PERFORMANCE.md holds is printed as it stands there.
+FOLDER has libskewguard.so; without it tools/c_library.py builds it. It needs a C compiler, libsqlite3-dev and Python's
+headers. The table that docs/PERFORMANCE.md holds is printed as it stands there. Python is measured twice: by the
+extension, as a wheel has it, and over ctypes; SQLite is called by the module sqlite3 both times.
+
+With --instructions each side runs in one thread under `valgrind --tool=callgrind`, three times as many transactions and
+then as many as asked for, and the difference counts: so loading is not in it, and other work of the machine changes
+nothing.
 
 A transaction is BEGIN, one UPDATE of a row by its key, prepared once and with two values, and COMMIT. The tables, the
 rules and SQLite's triggers are those of bench/statements.py. Each side is called as its users would call it: skewguard
@@ -21,6 +27,7 @@ of that of the processor. Each answer is looked at: a statement that did not cha
 import argparse
 import os
 import pathlib
+import re
 import sqlite3
 import statistics
 import struct
@@ -29,11 +36,12 @@ import sys
 import tempfile
 import threading
 import time
+import zipfile
 
 from replays import TOP, digits, machine, table, written
 from statements import FORMS, text
 
-LANGUAGES = ("C", "Python")
+LANGUAGES = ("C", "Python", "ctypes")
 SIDES = ("skewguard", "sqlite")
 
 
@@ -78,6 +86,8 @@ def in_skewguard(setup, update):
     """What makes a change in skewguard, and counts how often others were in its way."""
     import skewguard
 
+    if skewguard.IMPLEMENTATION != os.environ["WANTED"]:
+        raise ValueError(f"this is the implementation {skewguard.IMPLEMENTATION}")
     manager = skewguard.open(pathlib.Path(setup).read_text())
 
     def change(values):
@@ -160,30 +170,89 @@ def compiled(library, folder):
     return [program]
 
 
-def measured(command, side, setup, update, changes, threads, library):
-    """Microseconds a transaction on the clock and of the processor, and how many COMMITs were refused for others."""
-    known = {"PYTHONPATH": f"{TOP}/bindings/python/src", "SKEWGUARD_LIBRARY": f"{library}/libskewguard.so.0"}
+def packaged(folder):
+    """The folder of the package with its extension, as a wheel has it."""
+    words = [sys.executable, "-c", "import sys, wheels; print(wheels.build_wheel(sys.argv[1]))", folder]
+    built = {"cwd": f"{TOP}/bindings/python/backend", "stdout": subprocess.PIPE, "text": True}
+    wheel = subprocess.run(words, check=True, **built).stdout.split()[-1]
+    with zipfile.ZipFile(f"{folder}/{wheel}") as files:
+        files.extractall(f"{folder}/packages")
+    return f"{folder}/packages"
+
+
+def commands_of(library, folder):
+    """For each language its command, and what its environment has."""
+    python = [sys.executable, os.path.abspath(__file__), "--run"]
+    found = {"SKEWGUARD_LIBRARY": f"{library}/libskewguard.so.0", "PYTHONPATH": packaged(folder)}
+    return {
+        "C": (compiled(library, folder), found),
+        "Python": (python, found | {"SKEWGUARD_CTYPES": "0", "WANTED": "C"}),
+        "ctypes": (python, found | {"SKEWGUARD_CTYPES": "1", "WANTED": "ctypes"}),
+    }
+
+
+def sides_of(language):
+    """What is run from a language. SQLite is run from Python once, since the implementation changes nothing there."""
+    return SIDES[:1] if language == "ctypes" else SIDES
+
+
+def ran(command, known, side, setup, update, changes, threads):
+    """What a run says, on standard output and on standard error."""
     words = [*command, side, setup, update, changes, str(threads)]
-    done = subprocess.run(words, check=True, stdout=subprocess.PIPE, text=True, env=os.environ | known)
-    passed, used, refused = done.stdout.split()
+    done = subprocess.run(words, check=True, capture_output=True, text=True, env=os.environ | known)
+    return done.stdout, done.stderr
+
+
+def measured(changes, *run):
+    """Microseconds a transaction on the clock and of the processor, and how many COMMITs were refused for others."""
+    passed, used, refused = ran(*run)[0].split()
     each = 1e6 / (os.path.getsize(changes) / 16)
     return float(passed) * each, float(used) * each, int(refused)
 
 
-def measure(form, rows, asked, commands, library, folder):
+def measure(form, rows, asked, commands, folder):
     """The figures of each number of threads, language and side."""
     setups, update = write_setups(form, rows, folder), update_of(form)
     changes, found = write_changes(form, rows, asked.transactions, folder), {}
     for _ in range(asked.repetitions):
         for threads in asked.threads:
             for language in LANGUAGES:
-                for side in SIDES:
-                    figures = measured(commands[language], side, setups[side], update, changes, threads, library)
+                for side in sides_of(language):
+                    figures = measured(changes, *commands[language], side, setups[side], update, changes, threads)
                     found.setdefault((threads, language, side), []).append(figures)
     for key, figures in found.items():
         each = " ".join(f"{one[0]:.1f}/{one[1]:.1f}" for one in figures)
         print(f"{form.name}, {rows} rows, {key}: {each}", flush=True)
-    return found
+    return found | {(threads, "ctypes", "sqlite"): found[threads, "Python", "sqlite"] for threads in asked.threads}
+
+
+def instructions(command, known, *run):
+    """The instructions of a run."""
+    counting = ["valgrind", "--tool=callgrind", "--callgrind-out-file=/dev/null", *command]
+    return int(re.search(r"Collected : (\d+)", ran(counting, known, *run)[1])[1])
+
+
+def count(form, rows, asked, commands, folder):
+    """The instructions of a transaction, by languages and sides."""
+    setups, update, found = write_setups(form, rows, folder), update_of(form), {}
+    for language in LANGUAGES:
+        for side in sides_of(language):
+            counts = []
+            for times in (3 * asked.transactions, asked.transactions):
+                changes = write_changes(form, rows, times, folder)
+                counts.append(instructions(*commands[language], side, setups[side], update, changes, 1))
+            many, few = counts
+            found[language, side] = (many - few) / (2 * asked.transactions)
+            print(f"{form.name}, {rows} rows, {language}, {side}: {found[language, side]:.0f}", flush=True)
+    return found | {("ctypes", "sqlite"): found["Python", "sqlite"]}
+
+
+def print_counts(found):
+    heads = ["form", "rows", "from", "skewguard, instructions", "SQLite, instructions", "SQLite / skewguard"]
+    rows = []
+    for (form, size, language), (own, other) in found.items():
+        rows.append([form, f"{size:,}", language, f"{own:,.0f}", f"{other:,.0f}", digits(other / own)])
+    table(heads, rows)
 
 
 def medians(figures):
@@ -205,25 +274,38 @@ def numbers(text):
     return [int(number) for number in text.split(",")]
 
 
-def main():
+def parsed():
     words = argparse.ArgumentParser(description=__doc__, formatter_class=argparse.RawDescriptionHelpFormatter)
     words.add_argument("--library", help="the folder of libskewguard.so; without it tools/c_library.py builds it")
-    words.add_argument("--rows", type=numbers, default=[10_000, 100_000])
+    words.add_argument("--rows", type=numbers)
     words.add_argument("--threads", type=numbers, default=[1, 4])
     words.add_argument("--forms", type=lambda text: text.split(","), default=["by row", "by group"])
-    words.add_argument("--transactions", type=int, default=20_000)
+    words.add_argument("--transactions", type=int)
     words.add_argument("--repetitions", type=int, default=5)
+    words.add_argument("--instructions", action="store_true")
     asked = words.parse_args()
-    found = {}
+    asked.rows = asked.rows or ([1000] if asked.instructions else [10_000, 100_000])
+    asked.transactions = asked.transactions or (300 if asked.instructions else 20_000)
+    return asked
+
+
+def main():
+    asked, found, counts = parsed(), {}, {}
     with tempfile.TemporaryDirectory() as folder:
-        library = linked(asked.library, folder)
-        commands = {"C": compiled(library, folder), "Python": [sys.executable, os.path.abspath(__file__), "--run"]}
+        commands = commands_of(linked(asked.library, folder), folder)
         print(f"SQLite {sqlite3.sqlite_version}, {machine(asked.repetitions)}", flush=True)
         for form in FORMS:
             for rows in asked.rows if form.name in asked.forms else ():
-                measures = measure(form, rows, asked, commands, library, folder)
-                for (threads, language, side), figures in measures.items():
+                if asked.instructions:
+                    counted = count(form, rows, asked, commands, folder)
+                    for language in LANGUAGES:
+                        counts[form.name, rows, language] = [counted[language, side] for side in SIDES]
+                    continue
+                for (threads, language, side), figures in measure(form, rows, asked, commands, folder).items():
                     found.setdefault((form.name, rows, threads, language), {})[side] = figures
+    if asked.instructions:
+        print_counts(counts)
+        return
     print(f"load at the end {os.getloadavg()[0]:.1f}")
     print_table(found)
 

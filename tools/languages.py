@@ -2,13 +2,14 @@
 """Runs the tests of the languages: Python and Rust, their examples, and what the pages and the manual show.
 
     tools/languages.py [--library FOLDER] [--program FILE] [--without-rust]
-    tools/languages.py --manual          prints the manual's example in C
+    tools/languages.py --sanitized [--library FOLDER]    runs what is below under AddressSanitizer alone
+    tools/languages.py --manual                          prints the manual's example in C
 
 FOLDER has the static and the shared library; without it tools/c_library.py builds them. FILE is the program, or that
 which the gate has built. It needs a C compiler, cargo, and Python 3.9 or later with venv and its headers; no network.
 
 Python is tried by both implementations: over ctypes, and in C, built from the package's source archive; that one is
-tried under AddressSanitizer once more, where the compiler has it.
+tried under AddressSanitizer and UndefinedBehaviorSanitizer once more, where the compiler has them.
 """
 import argparse
 import os
@@ -34,6 +35,12 @@ EXAMPLES = {
     "the bank holds 200, and no owner is below zero\n",
     "booking": "4 guests have a room\nslots: 1209 1210 1211 1212 1213\n",
 }
+
+# The rows that are there for events of docs/LANGUAGE.md over a table T.
+ROWS_OF_T = """CREATE TABLE T (ID INTEGER PRIMARY KEY, N INTEGER);
+INSERT INTO T VALUES (1, 7);
+INSERT INTO T VALUES (2, 7);
+"""
 
 
 def run(words, **how):
@@ -92,8 +99,30 @@ def unittests(known, *modules):
     run([sys.executable, "-X", "dev", "-W", "error", "-m", "unittest", *chosen], cwd=PYTHON / "tests", env=known)
 
 
+def hotel(known):
+    """A hotel's desks, for an epoch of few commits."""
+    run([sys.executable, TOP / "tools/hotel.py", "--minutes", "0", "--commits", "3000"], env=known)
+
+
+def python_page(known, place):
+    """The Python of docs/PYTHON.md as one program. Its first block is a file, which the shell's lines run."""
+    page = (TOP / "docs/PYTHON.md").read_text(encoding="utf-8")
+    blocks = re.findall(r"^```(\w+)\n(.*?)^```$", page, re.MULTILINE | re.DOTALL)
+    texts = {kind: [text for word, text in blocks if word == kind] for kind in ("python", "sh")}
+    if len(texts["python"]) + len(texts["sh"]) != len(blocks) or page.count("\n```") != 2 * len(blocks):
+        sys.exit("docs/PYTHON.md has a block that is none of Python or of the shell")
+    whole, printing = "".join(texts["python"]), r"^ *print\(.*\)(?:  |\n)# (.+\n)"
+    place.mkdir()
+    (place / "service.py").write_text(texts["python"][0], encoding="utf-8")
+    (place / "page.py").write_text(whole, encoding="utf-8")
+    told = "".join(re.findall(printing, whole, re.MULTILINE))
+    wanted("docs/PYTHON.md", run([sys.executable, "page.py"], cwd=place, env=known), told)
+    told = "".join(re.findall(r"  # (.+\n)", "".join(texts["sh"])))
+    wanted("the shell of docs/PYTHON.md", run(["bash", "-ec", "".join(texts["sh"])], cwd=place, env=known), told)
+
+
 def python_tests(known, implementation):
-    """The tests, the README and the examples by an implementation."""
+    """The tests, the README, the examples and the hotel by an implementation."""
     found = run([sys.executable, "-c", "import skewguard; print(skewguard.IMPLEMENTATION)"], env=known)
     wanted("the implementation", found, f"{implementation}\n")
     unittests(known)
@@ -103,6 +132,7 @@ def python_tests(known, implementation):
     wanted("the example of the README", run([sys.executable, "-c", first], env=known), f"{printed}\n")
     for name, expected in EXAMPLES.items():
         wanted(f"{name}.py", run([sys.executable, PYTHON / f"examples/{name}.py"], env=known), expected)
+    hotel(known)
 
 
 def with_extension(known, folder, **flags):
@@ -123,7 +153,7 @@ def with_extension(known, folder, **flags):
 
 
 def sanitized_extension(known, folder):
-    """The tests of the extension under AddressSanitizer; None where the compiler has none."""
+    """The tests of the extension, and the hotel, under AddressSanitizer; None where the compiler has none."""
     found = [run(["cc", f"-print-file-name={name}"]).strip() for name in ("libasan.so", "libubsan.so")]
     if not all(map(os.path.isabs, found)):
         return None
@@ -131,14 +161,18 @@ def sanitized_extension(known, folder):
     known = with_extension(known, folder, CFLAGS=flags)
     # What Python keeps until its end is no leak: tests/test_memory.py looks for those.
     options = {"ASAN_OPTIONS": "detect_leaks=0:allocator_may_return_null=1", "PYTHONMALLOC": "malloc"}
-    unittests(known | options | {"LD_PRELOAD": " ".join(found)})
+    known |= options | {"LD_PRELOAD": " ".join(found)}
+    unittests(known)
+    hotel(known)
     return known
 
 
 def python_implementations(known, folder):
     """All that Python is tried by; True where AddressSanitizer was there."""
-    python_tests(known | {"SKEWGUARD_CTYPES": "1"}, "ctypes")
-    python_tests(with_extension(known, folder / "extension"), "C")
+    of_both = {"ctypes": known | {"SKEWGUARD_CTYPES": "1"}, "C": with_extension(known, folder / "extension")}
+    for implementation, environment in of_both.items():
+        python_tests(environment, implementation)
+        python_page(environment, folder / f"page_{implementation}")
     return sanitized_extension(known, folder / "sanitized") is not None
 
 
@@ -269,16 +303,27 @@ def rules(known, folder):
             wanted(f"{', '.join(names)} of docs/LANGUAGE.md", truths, f"COMMITS 0\nSERIAL\nREFUSED 0\n{taken}")
 
 
-def answers_of_examples(shown):
+def replayed(events, known, place):
+    """The answers to events over a table T with two rows, without the lines of the rows."""
+    place.mkdir(exist_ok=True)
+    (place / "defs.sql").write_text(ROWS_OF_T, encoding="utf-8")
+    (place / "script.sql").write_text(events, encoding="utf-8")
+    printed = run(["skewguard", "replay", "defs.sql", "script.sql"], cwd=place, env=known)
+    return re.sub("^  .*\n", "", printed, flags=re.MULTILINE)
+
+
+def answers_of_examples(shown, known, folder):
     """The answers beside events in docs/LANGUAGE.md stand one behind the other in what an example prints.
 
-    But for those that are shown otherwise.
+    But for those that are shown otherwise. Events of a table T are replayed.
     """
     printed = [path.read_text(encoding="utf-8") for path in TOP.glob("examples/*/expected.txt")]
     page = (TOP / "docs/LANGUAGE.md").read_text(encoding="utf-8")
     for events in re.findall(r"^```sql\n((?:\w+: .*; +-- .*\n)+)```$", page, re.MULTILINE):
-        answers = "".join(re.findall(r"-- (.+\n)", events))
-        if events not in shown and not any(f"\n{answers}" in f"\n{one}" for one in printed):
+        answers = "".join(re.findall(r"-- (.+\n)", events)).replace(", and the line of the row", "")
+        if " T " in events:
+            wanted("a script of docs/LANGUAGE.md", replayed(events, known, folder / "t")[: len(answers)], answers)
+        elif events not in shown and not any(f"\n{answers}" in f"\n{one}" for one in printed):
             sys.exit(f"no example prints what docs/LANGUAGE.md has:\n{answers}")
 
 
@@ -296,7 +341,7 @@ def page(known, folder, without_rust):
         run_way(name, way, folder / name.replace("/", "_"), unaided(quiet) if name.endswith(".rs") else quiet)
     run_way("script.sql", language["script.sql"], folder / "language", quiet)
     rules(known, folder)
-    answers_of_examples(language["script.sql"].files.values())
+    answers_of_examples(language["script.sql"].files.values(), known, folder)
 
 
 def main():
@@ -304,14 +349,15 @@ def main():
     words.add_argument("--library", type=pathlib.Path)
     words.add_argument("--program", type=pathlib.Path, default=TOP / "crates/skewguard/out/skewguard")
     words.add_argument("--without-rust", action="store_true")
+    words.add_argument("--sanitized", action="store_true")
     words.add_argument("--manual", action="store_true")
     asked = words.parse_args()
     if asked.manual:
         print(manual_example(), end="")
         return
-    if not asked.program.exists():
+    if not asked.sanitized and not asked.program.exists():
         sys.exit(f"there is no program at {asked.program}: `rt run` in crates/skewguard makes it")
-    if not asked.without_rust and not shutil.which("cargo"):
+    if not asked.sanitized and not asked.without_rust and not shutil.which("cargo"):
         sys.exit("there is no cargo: --without-rust leaves Rust out")
     with tempfile.TemporaryDirectory() as place:
         folder = pathlib.Path(place)
@@ -322,6 +368,11 @@ def main():
             run([sys.executable, TOP / "tools/c_library.py", library])
         library = linked(library.resolve(), folder)
         known = environment(library, asked.program.resolve(), folder)
+        if asked.sanitized:
+            if sanitized_extension(known, folder / "sanitized") is None:
+                sys.exit("the compiler has no AddressSanitizer")
+            print("the extension: all ran as it has to, under AddressSanitizer")
+            return
         is_sanitized = python_implementations(known, folder)
         python_package(known, library, folder)
         if not asked.without_rust:

@@ -265,8 +265,15 @@ static PyObject *engine_transactions(PyObject *self, void *closure)
     return PyLong_FromSize_t(engine_open_transactions(&((EngineObject *)self)->engine));
 }
 
+static PyObject *engine_is_calling(PyObject *self, void *closure)
+{
+    (void)closure;
+    return PyBool_FromLong(call_fault((EngineObject *)self) == IS_CALLING);
+}
+
 static PyGetSetDef engine_properties[] = {
     {"_open_transactions", engine_transactions, NULL, NULL, NULL},
+    {"_is_calling", engine_is_calling, NULL, NULL, NULL},
     {"closed", engine_closed, NULL, "Whether the manager was closed.", NULL},
     {NULL, NULL, NULL, NULL, NULL},
 };

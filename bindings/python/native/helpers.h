@@ -15,6 +15,7 @@ typedef struct Helpers {
     PyObject *parameter_bytes; /* (values) -> how many, and their bytes; raises for what is no value */
     PyObject *text_bytes;      /* (text) -> its bytes; raises for what is no str */
     PyObject *taken;           /* (text, values) -> both as a text and a list; raises for what is no list of values */
+    PyObject *unended;         /* (text) -> the same without the `;` at its end; None where it has none */
     PyObject *row_type;        /* (names of columns) -> the type of their rows */
     PyObject *tell;            /* (trace, line) hands the line on */
     PyObject *checked_retry;   /* (retry) -> the same; raises for what is no number of times */

@@ -49,13 +49,13 @@ static PyObject *load(PyObject *module, PyObject *args)
 /* use(error_of=, ..): what is Python's. */
 static PyObject *use(PyObject *module, PyObject *args, PyObject *kwargs)
 {
-    static char *names[] = {"error_of", "parameter_bytes", "text_bytes", "taken", "row_type", "tell", "checked_retry",
-                            "result", "transaction", NULL};
+    static char *names[] = {"error_of", "parameter_bytes", "text_bytes", "taken", "unended", "row_type", "tell",
+                            "checked_retry", "result", "transaction", NULL};
     Helpers given;
     (void)module;
-    if (!PyArg_ParseTupleAndKeywords(args, kwargs, "OOOOOOOO!O!", names, &given.error_of, &given.parameter_bytes,
-                                     &given.text_bytes, &given.taken, &given.row_type, &given.tell,
-                                     &given.checked_retry, &PyType_Type, &given.result.type, &PyType_Type,
+    if (!PyArg_ParseTupleAndKeywords(args, kwargs, "OOOOOOOOO!O!", names, &given.error_of, &given.parameter_bytes,
+                                     &given.text_bytes, &given.taken, &given.unended, &given.row_type,
+                                     &given.tell, &given.checked_retry, &PyType_Type, &given.result.type, &PyType_Type,
                                      &given.transaction.type))
         return NULL;
     given.result.allocate = (allocfunc)PyType_GetSlot(given.result.type, Py_tp_alloc);

@@ -147,21 +147,52 @@ static int transaction_traverse(PyObject *self, visitproc visit, void *arg)
     return 0;
 }
 
+static int raise_pending(void *error)
+{
+    PyErr_SetObject((PyObject *)Py_TYPE((PyObject *)error), error);
+    Py_DECREF((PyObject *)error);
+    return -1;
+}
+
+/* Raises an interrupt in the main thread once this is over, since Python drops what a finalizer raises. 0 where it
+ * can't. */
+static int raise_later(void)
+{
+    PyObject *type, *value, *traceback;
+    int is_pending;
+    PyErr_Fetch(&type, &value, &traceback);
+    PyErr_NormalizeException(&type, &value, &traceback);
+    is_pending = value && !Py_AddPendingCall(raise_pending, value);
+    if (!is_pending) {
+        PyErr_Restore(type, value, traceback);
+        return 0;
+    }
+    Py_XDECREF(type);
+    Py_XDECREF(traceback);
+    return 1;
+}
+
+/* Warns of a forgotten transaction. Where warnings are errors it is shown, and stops nothing. */
+static void warn(PyObject *self)
+{
+    PyObject *type, *value, *traceback;
+    PyErr_Fetch(&type, &value, &traceback);
+    if (PyErr_ResourceWarning(self, 1, "a transaction was forgotten, and is rolled back")
+        && (PyErr_ExceptionMatches(PyExc_Exception) || !raise_later()))
+        PyErr_WriteUnraisable(NULL);
+    PyErr_Restore(type, value, traceback);
+}
+
 /* Where nobody has an open transaction any more, the next call rolls it back. */
 static void transaction_finalize(PyObject *self)
 {
     TransactionObject *it = (TransactionObject *)self;
-    PyObject *type, *value, *traceback;
     if (atomic_load(&it->state) != IS_OPEN)
         return;
     engine_forget(&it->engine->engine, it->session);
     atomic_store(&it->state, WAS_LOST);
-    if (!it->engine->engine.handle || it->engine->process != process)
-        return;
-    PyErr_Fetch(&type, &value, &traceback);
-    if (PyErr_ResourceWarning(self, 1, "a transaction was forgotten, and is rolled back"))
-        PyErr_WriteUnraisable(NULL);
-    PyErr_Restore(type, value, traceback);
+    if (it->engine->engine.handle && it->engine->process == process)
+        warn(self);
 }
 
 static void transaction_dealloc(PyObject *self)
@@ -269,8 +300,8 @@ static void roll_back_quietly(TransactionObject *it)
 static PyObject *transaction_exit(PyObject *self, PyObject *args)
 {
     TransactionObject *it = (TransactionObject *)self;
-    PyObject *kind = PyTuple_GetItem(args, 0);
-    if (!kind)
+    PyObject *kind, *value, *traceback;
+    if (!PyArg_UnpackTuple(args, "__exit__", 3, 3, &kind, &value, &traceback))
         return NULL;
     if (atomic_load(&it->state) == IS_OPEN && kind == Py_None)
         finish_or_raise(it, SKEWGUARD_DO_COMMIT);
@@ -310,31 +341,40 @@ static void keep(EngineObject *it, PyObject *text, const Reply *reply, Statement
         engine_ask_of(&it->engine, SKEWGUARD_DO_FORGET, gone->number);
 }
 
-static int prepare(EngineObject *it, PyObject *text)
+/* Asks for a statement, which is kept under a text. 0 with a Python exception; else the status is in the reply. */
+static int ask_to_prepare(EngineObject *it, PyObject *text, PyObject *statement, Reply *reply)
 {
     Statement gone = {0};
-    Reply reply;
-    int32_t status;
-    PyObject *bytes = PyObject_CallFunctionObjArgs(helpers.text_bytes, text, NULL);
+    PyObject *bytes = PyObject_CallFunctionObjArgs(helpers.text_bytes, statement, NULL);
     const char *request = bytes ? PyBytes_AsString(bytes) : NULL;
-    if (!request) {
-        Py_XDECREF(bytes);
-        return 0;
-    }
-    reply_start(&reply, 0);
-    status = enter(it);
-    if (!status) {
-        status = engine_make(&it->engine, &reply, SKEWGUARD_DO_PREPARE, (const unsigned char *)request,
-                             (size_t)PyBytes_Size(bytes));
-        if (!status)
-            keep(it, text, &reply, &gone);
+    reply->status = request ? enter(it) : SKEWGUARD_NO_MEMORY;
+    if (!reply->status) {
+        engine_make(&it->engine, reply, SKEWGUARD_DO_PREPARE, (const unsigned char *)request,
+                    (size_t)PyBytes_Size(bytes));
+        if (!reply->status)
+            keep(it, text, reply, &gone);
         leave(it);
     }
-    if (status && !PyErr_Occurred())
-        raise_status(status, &reply, text);
-    reply_end(&reply);
     statement_clear(&gone);
-    Py_DECREF(bytes);
+    Py_XDECREF(bytes);
+    return !PyErr_Occurred();
+}
+
+/* Prepares the statement of a text. The library takes none with a `;` at its end, as a script has it; here it may. */
+static int prepare(EngineObject *it, PyObject *text)
+{
+    Reply reply;
+    reply_start(&reply, 0);
+    if (ask_to_prepare(it, text, text, &reply) && reply_kind(&reply) == SKEWGUARD_REFUSAL
+        && first_number(&reply) == SKEWGUARD_FAULT_SYNTAX) {
+        PyObject *statement = PyObject_CallFunctionObjArgs(helpers.unended, text, NULL);
+        if (statement && statement != Py_None)
+            ask_to_prepare(it, text, statement, &reply);
+        Py_XDECREF(statement);
+    }
+    if (reply.status && !PyErr_Occurred())
+        raise_status(reply.status, &reply, text);
+    reply_end(&reply);
     return !PyErr_Occurred();
 }
 

@@ -2,6 +2,7 @@
 
 import asyncio
 import gc
+import threading
 import time
 import unittest
 
@@ -21,8 +22,16 @@ ADD = "UPDATE P SET N = N + ? WHERE ID = ?"
 class Async(unittest.IsolatedAsyncioTestCase):
     def setUp(self):
         self.pause = 0
-        self.manager = skewguard.open(DEFINITIONS, trace=lambda line: time.sleep(self.pause))
+        self.pauses = 0
+        self.during = lambda: None
+        self.manager = skewguard.open(DEFINITIONS, trace=self.wait)
         self.addCleanup(self.manager.close)
+
+    def wait(self, line):
+        """Has each call take so long."""
+        self.pauses += self.pause > 0
+        time.sleep(self.pause)
+        self.during()
 
     def numbers(self):
         with self.manager.transaction(read_only=True) as t:
@@ -85,24 +94,24 @@ class Async(unittest.IsolatedAsyncioTestCase):
         self.assertEqual(self.numbers(), [5 * sum(range(8)), 0])
 
     async def test_the_loop_goes_on(self):
-        ticks = []
+        """Each call waits until the loop has had a turn."""
+        loop, turns = asyncio.get_running_loop(), []
 
-        async def tick():
-            while True:
-                ticks.append(time.monotonic())
-                await asyncio.sleep(0.005)
+        def during():
+            turn = threading.Event()
+            loop.call_soon_threadsafe(turn.set)
+            turns.append(turn.wait(30))
 
-        task = asyncio.create_task(tick())
-        self.pause = 0.05
+        self.during = during
         async with self.manager.transaction() as t:
             await t.execute(ADD, [1, 1])
-        task.cancel()
-        self.assertGreater(len(ticks), 10)
+        self.assertEqual(turns, [True] * 3)
 
-    async def cancelled(self, work, after):
-        """Runs a task that is cancelled after so many seconds, and once more at once."""
+    async def cancelled(self, work):
+        """Runs a task that is cancelled in its first call that takes long, and once more at once."""
         task = asyncio.create_task(work())
-        await asyncio.sleep(after)
+        while not self.pauses:
+            await asyncio.sleep(0.001)
         task.cancel()
         await asyncio.sleep(0)
         task.cancel()
@@ -120,7 +129,7 @@ class Async(unittest.IsolatedAsyncioTestCase):
                 await t.execute(ADD, [5, 1])
                 self.fail("it went on")
 
-        await self.cancelled(work, 0.03)
+        await self.cancelled(work)
         self.assertEqual(self.numbers(), [0, 0])
 
     async def test_a_task_that_is_cancelled_as_it_begins(self):
@@ -129,7 +138,7 @@ class Async(unittest.IsolatedAsyncioTestCase):
             async with self.manager.transaction(session="KIM"):
                 self.fail("the block was run")
 
-        await self.cancelled(work, 0.03)
+        await self.cancelled(work)
         self.manager.begin(session="KIM").rollback()
 
     async def test_a_task_that_is_cancelled_as_it_commits(self):
@@ -138,7 +147,7 @@ class Async(unittest.IsolatedAsyncioTestCase):
                 await t.execute(ADD, [5, 1])
                 self.pause = 0.1
 
-        await self.cancelled(work, 0.03)
+        await self.cancelled(work)
         self.assertEqual(self.numbers(), [5, 0])
 
     async def test_functions_with_retries_run_in_a_thread(self):

@@ -1,5 +1,6 @@
 """Each public call, and what a careless caller does: a clear error, and nothing lost."""
 
+import copy
 import doctest
 import gc
 import logging
@@ -139,6 +140,34 @@ class Calls(unittest.TestCase):
         copied = pickle.loads(pickle.dumps(rows))
         self.assertEqual((list(copied), copied.count, copied.kind), (list(rows), 1, "SELECT"))
         self.assertEqual((copied.columns, copied.first().DOCTOR), (rows.columns, "KIM"))
+
+    def test_managers_and_transactions_are_not_copied(self):
+        with self.manager.transaction() as t:
+            for what in (self.manager, t):
+                for way in (copy.copy, copy.deepcopy, pickle.dumps):
+                    with self.assertRaisesRegex(TypeError, "is neither copied nor pickled"):
+                        way(what)
+
+    def test_errors_are_pickled(self):
+        """So that a pool of processes hands them on."""
+        refused = []
+        with self.manager.transaction() as t:
+            wrong = [("UPDATE DUTY SET ONCALL = 0", []), ("SELEKT", []), (INSERT, [3, "\n", 1]), (INSERT, [1, "A", 1])]
+            for text, values in wrong:
+                with self.assertRaises(skewguard.Error) as caught:
+                    t.execute(text, values)
+                refused.append(caught.exception)
+            with self.manager.transaction() as other:
+                other.execute("UPDATE DUTY SET ONCALL = 2 WHERE ID = 1")
+            t.execute("UPDATE DUTY SET ONCALL = 3 WHERE ID = 1")
+            with self.assertRaises(skewguard.SerializationFailure) as caught:
+                t.commit()
+            refused.append(caught.exception)
+        for error in (*refused, skewguard.NoMemory("none"), skewguard.ReplyLost("lost"), skewguard.EpochFull("full")):
+            for copied in (pickle.loads(pickle.dumps(error)), copy.copy(error), copy.deepcopy(error)):
+                self.assertIs(type(copied), type(error))
+                self.assertEqual((str(copied), copied.__dict__), (str(error), error.__dict__))
+        self.assertIs(pickle.loads(pickle.dumps(refused[0])).root, skewguard.ALL)
 
     def test_set_constraints(self):
         definitions = DEFINITIONS.replace(">= 1);", ">= 1) DEFERRABLE;")
@@ -471,6 +500,18 @@ class Calls(unittest.TestCase):
         with self.assertRaisesRegex(skewguard.InterfaceError, "has not begun"):
             self.manager.transaction().execute(ALL)
 
+    def test_a_block_begins_its_transaction(self):
+        t = self.manager.begin()
+        with self.assertRaisesRegex(skewguard.InterfaceError, "this one has begun before"):
+            with t:
+                self.fail("the block was run")
+        self.assertEqual(t.execute(ALL).count, 2)
+        t.commit()
+        self.manager.close()
+        with self.assertRaisesRegex(skewguard.InterfaceError, "the manager is closed"):
+            with self.manager:
+                self.fail("the block was run")
+
     def test_a_transaction_that_was_ended_in_its_block(self):
         with self.manager.transaction() as t:
             t.execute("DELETE FROM DUTY WHERE ID = 2")
@@ -544,6 +585,22 @@ class Calls(unittest.TestCase):
                     t.execute(*wrong)
             t.rollback()
 
+    def test_values_that_are_made_as_they_are_asked_for(self):
+        with self.manager.transaction() as t:
+            found = t.execute("SELECT ID FROM DUTY WHERE ID = ?", (row.ID for row in t.execute(ALL) if row.ONCALL))
+            self.assertEqual(found.scalar(), 1)
+
+            class Failing(dict):
+                def __getitem__(self, name):
+                    return 1 // 0
+
+            for values in ((1 // 0 for _ in range(3)), Failing(id=1)):
+                with self.assertRaises(ZeroDivisionError):
+                    t.execute("DELETE FROM DUTY WHERE ID = :id", values)
+            with self.assertRaisesRegex(skewguard.InterfaceError, "was rolled back"):
+                t.execute("DELETE FROM DUTY WHERE ID = ?", (t.rollback() or 2 for _ in range(1)))
+        self.assertEqual(self.rows(), BEGINNING)
+
     def test_values_by_name(self):
         with self.manager.transaction() as t:
             new = {"id": 3, "doctor": "LEE", "oncall": 0, "hired": "never read"}
@@ -614,7 +671,7 @@ class Calls(unittest.TestCase):
             self.assertEqual((fault.number, fault.line, fault.column), (2, 2, 2))
             self.assertEqual(str(fault).splitlines()[1:], ["  \tFORM DUTY", "  \t^"])
             quoted = "SELECT * FROM DUTY WHERE DOCTOR = 'Ren\u00e9'"
-            for text, column in (("", 1), ("SELECT * FROM DUTY;", 19), (quoted, 35)):
+            for text, column in (("", 1), ("SELECT * FROM DUTY;;", 19), (quoted, 35)):
                 with self.assertRaises(skewguard.ProgrammingError) as caught:
                     t.execute(text)
                 self.assertEqual((caught.exception.line, caught.exception.column), (1, column), text)
@@ -628,6 +685,31 @@ class Calls(unittest.TestCase):
                 with self.assertRaises(skewguard.ProgrammingError) as caught:
                     t.execute(text)
                 self.assertLess(len(str(caught.exception)), 400)
+
+    def test_a_statement_may_have_its_end(self):
+        """A `;`, as in a script."""
+        with self.manager.transaction() as t:
+            for end in (";", " ;", ";\n", " ; -- all of it; really", "--'\n;--'"):
+                for _ in range(2):
+                    self.assertEqual(t.execute("SELECT ID FROM DUTY" + end).count, 2)
+                self.assertEqual(t.execute(f"SELECT ID FROM DUTY WHERE ID = ?{end}", [2]).scalar(), 2)
+                self.assertEqual(t.execute(f"SELECT ID FROM DUTY WHERE ID = :id{end}", {"id": 2}).scalar(), 2)
+            self.assertEqual(t.execute("DELETE FROM DUTY WHERE DOCTOR = ';';").count, 0)
+            faults = {
+                ";": 1,
+                "SELECT * FROM DUTY WHERE;": 25,
+                "SELECT * FROM DUTY WHERE ;": 26,
+                "SELECT * FROM DUTY; DELETE FROM DUTY;": 19,
+                "SELECT * FROM DUTY; DELETE FROM DUTY": 19,
+                "SELECT * FROM DUTY WHERE DOCTOR = 'A;": 35,
+            }
+            for text, column in faults.items():
+                with self.assertRaises(skewguard.ProgrammingError) as caught:
+                    t.execute(text)
+                self.assertEqual((caught.exception.line, caught.exception.column), (1, column), text)
+                self.assertIn(f"  {text}\n", str(caught.exception))
+            t.execute("COMMIT;")
+        self.assertEqual((t.number, self.rows()), (1, BEGINNING))
 
     def test_definitions_that_are_refused(self):
         with self.assertRaises(skewguard.ProgrammingError) as caught:

@@ -1,6 +1,7 @@
 """What PEP 249 asks of a module, point by point, and what its users rely on beside that."""
 
 import datetime
+import sys
 import threading
 import time
 import unittest
@@ -128,6 +129,30 @@ class Connections(unittest.TestCase):
             with self.assertRaisesRegex(dbapi.InterfaceError, "the connection is closed"):
                 call()
 
+    def test_close_behind_its_manager(self):
+        shared = dbapi.connect(self.connection.manager)
+        for connection in (shared, self.connection):
+            connection.execute("SELECT * FROM BOOZE")
+        self.connection.manager.close()
+        for connection in (shared, self.connection):
+            for call in (connection.commit, connection.rollback, lambda: connection.execute(NAMES)):
+                with self.assertRaisesRegex(dbapi.InterfaceError, "the manager is closed"):
+                    call()
+            connection.close()
+            connection.close()
+            self.assertEqual(repr(connection), "<skewguard.dbapi.Connection closed>")
+
+    def test_an_exception_leaves_the_block_of_one_that_is_closed(self):
+        other = dbapi.connect(self.connection.manager)
+        for connection, close in ((other, other.close), (self.connection, self.connection.manager.close)):
+            with self.assertRaises(ZeroDivisionError), connection:
+                connection.execute(INSERT, ["Redback"])
+                close()
+                1 / 0
+        with self.assertRaisesRegex(dbapi.InterfaceError, "the connection is closed"):
+            with dbapi.connect(DEFINITIONS) as connection:
+                connection.close()
+
     def test_a_closed_connection_leaves_no_transaction(self):
         other = dbapi.connect(self.connection.manager)
         other.execute(INSERT, ["Redback"])
@@ -243,6 +268,72 @@ class Connections(unittest.TestCase):
         self.assertEqual(len(self.names()), 200)
         self.connection.manager.checkpoint()
 
+    def share(self, connection, work):
+        """Four threads do something with a connection, each with its number; what they raised."""
+        raised, at_once = [], threading.Barrier(4)
+
+        def do(thread):
+            at_once.wait(30)
+            try:
+                work(connection, thread)
+            except Exception as error:
+                raised.append(error)
+
+        threads = [threading.Thread(target=do, args=(thread,)) for thread in range(4)]
+        switches = sys.getswitchinterval()
+        sys.setswitchinterval(1e-6)
+        try:
+            for thread in threads:
+                thread.start()
+            for thread in threads:
+                thread.join(60)
+        finally:
+            sys.setswitchinterval(switches)
+        return raised
+
+    def test_threads_that_share_a_connection_end_its_transactions(self):
+        """What one thread does as another commits is of the transaction before, or of the next."""
+
+        def work(connection, thread):
+            for number in range(150):
+                connection.execute(INSERT, [f"{thread} {number}"])
+                connection.commit()
+
+        for session in (None, "KIM"):
+            with self.subTest(session):
+                connection = dbapi.connect(DEFINITIONS, session=session)
+                self.assertEqual(self.share(connection, work), [])
+                connection.rollback()
+                self.assertEqual(len(connection.execute(NAMES).fetchall()), 600)
+                connection.close()
+
+    def test_threads_share_a_connection_of_single_statements(self):
+        def work(connection, thread):
+            for number in range(100):
+                connection.execute(INSERT, [f"{thread} {number}"])
+
+        with dbapi.connect(DEFINITIONS, session="KIM", autocommit=True) as connection:
+            self.assertEqual(self.share(connection, work), [])
+            self.assertEqual(len(connection.execute(NAMES).fetchall()), 400)
+        connection.close()
+
+    def test_a_trace_does_not_wait_for_its_own_call(self):
+        refused = []
+
+        def trace(line):
+            for autocommit in (False, True):
+                other = dbapi.connect(connection.manager, autocommit=autocommit)
+                try:
+                    other.execute(NAMES)
+                except dbapi.InterfaceError as error:
+                    refused.append(str(error))
+
+        connection = dbapi.connect(DEFINITIONS, trace=trace)
+        connection.execute(NAMES)
+        connection.close()
+        self.assertEqual(len(refused), 6)
+        self.assertIn("may not call the manager in the midst of a call", refused[0])
+
     # -- cursors
 
     def test_description(self):
@@ -293,6 +384,45 @@ class Connections(unittest.TestCase):
         with self.assertRaises(dbapi.IntegrityError):
             cursor.executemany(INSERT, [["X"], ["Redback"], ["Y"]])
         self.assertEqual(cursor.execute(NAMES).rowcount, 5)
+
+    def test_executemany_and_rollback(self):
+        cursor = self.fill(["Redback"])
+        self.connection.commit()
+        with self.assertRaises(dbapi.IntegrityError):
+            cursor.executemany(INSERT, [["A"], ["Redback"], ["B"]])
+        self.assertEqual(cursor.rowcount, -1)
+        self.assertEqual([row.NAME for row in cursor.execute(NAMES)], ["A", "Redback"])
+        self.connection.rollback()
+        self.assertEqual(self.names(), ["Redback"])
+
+        def failing():
+            yield ["C"]
+            1 / 0
+
+        def rolling_back():
+            yield ["D"]
+            self.connection.rollback()
+            yield ["E"]
+
+        with self.assertRaises(ZeroDivisionError), self.connection:
+            cursor.executemany(INSERT, failing())
+        self.assertEqual((cursor.rowcount, self.names()), (-1, ["Redback"]))
+        cursor.executemany(INSERT, rolling_back())
+        self.connection.commit()
+        self.assertEqual(self.names(), ["E", "Redback"])
+
+    def test_executemany_of_what_changes_no_rows(self):
+        cursor = self.fill(["Redback"])
+        for text in ("COMMIT", " rollback work", "--\nSELECT * FROM BOOZE", "SET CONSTRAINTS ALL IMMEDIATE", "BEGIN"):
+            for values in ([()], []):
+                with self.assertRaisesRegex(dbapi.ProgrammingError, "executemany changes rows"):
+                    cursor.executemany(text, values)
+        self.assertTrue(self.connection.in_transaction)
+        for text, error in (("SELEKT", dbapi.ProgrammingError), ("", dbapi.ProgrammingError), (None, TypeError)):
+            with self.assertRaises(error):
+                cursor.executemany(text, [()])
+        self.connection.rollback()
+        self.assertEqual(self.names(), [])
 
     def test_fetchone(self):
         cursor = self.connection.cursor()

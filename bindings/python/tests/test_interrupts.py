@@ -218,6 +218,19 @@ class Interrupts(Works):
                 self.assert_works(manager)
             self.assert_has_all_sessions(manager)
 
+    def test_as_a_forgotten_transaction_is_warned_of(self):
+        def forget(manager):
+            manager.begin()
+            for _ in range(1000):
+                manager.begin().rollback()
+
+        with opened() as manager, mock.patch.object(warnings, "showwarning", side_effect=KeyboardInterrupt) as shown:
+            warnings.simplefilter("always", ResourceWarning)
+            with self.assertRaises(KeyboardInterrupt):
+                forget(manager)
+            shown.assert_called_once()
+            self.assert_works(manager)
+
     def test_while_other_threads_work(self):
         """Ctrl-C stops the main thread alone, and the others go on."""
         stop, faults = threading.Event(), []

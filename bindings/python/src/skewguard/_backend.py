@@ -7,7 +7,7 @@ from typing import TYPE_CHECKING, Any, Callable, Type
 from . import _library, _refusals, rows
 from ._implementation import native
 from ._layout import parameter_bytes, text_bytes
-from ._texts import taken
+from ._texts import taken, unended
 
 if TYPE_CHECKING or native is None:
     from ._engine import Engine, Transaction
@@ -32,6 +32,7 @@ def install(transaction: Type[Any], checked_retry: Callable[[int], int]) -> None
         parameter_bytes=parameter_bytes,
         text_bytes=text_bytes,
         taken=taken,
+        unended=unended,
         row_type=rows.row_type,
         tell=_refusals.tell,
         checked_retry=checked_retry,

@@ -47,8 +47,8 @@ from ._layout import (
     parameter_bytes,
     text_bytes,
 )
-from ._refusals import EPOCH_FULL, NO_TRANSACTION, TOO_MANY_SESSIONS, error_of, tell
-from ._texts import taken
+from ._refusals import EPOCH_FULL, NO_TRANSACTION, SYNTAX, TOO_MANY_SESSIONS, error_of, tell
+from ._texts import taken, unended
 from .errors import Error, OperationalError, ReplyLost, Value
 from .rows import Result, row_type
 
@@ -276,6 +276,11 @@ class Engine:
     @property
     def _open_transactions(self) -> int:
         return 0 if self.closed else sum(session.use is not None for session in list(self._sessions.values()))
+
+    @property
+    def _is_calling(self) -> bool:
+        """Whether the thread that asks is in the midst of a call: in the trace, or in a signal's handler."""
+        return bool(self._lock._is_owned())  # type: ignore[attr-defined]
 
     def close(self) -> None:
         """Gives the memory back. Open transactions are lost. Later calls raise InterfaceError, but for this one."""
@@ -592,7 +597,13 @@ class Engine:
         if kept is not None:
             self._statements.move_to_end(text)
             return kept
-        self._make(Operation.PREPARE, text_bytes(text), text, self._note_statement, text)
+        try:
+            self._make(Operation.PREPARE, text_bytes(text), text, self._note_statement, text)
+        except Error as error:
+            statement = unended(text) if error.number == SYNTAX else None
+            if statement is None:
+                raise
+            self._make(Operation.PREPARE, text_bytes(statement), text, self._note_statement, text)
         while len(self._statements) > STATEMENTS:
             oldest, statement = next(iter(self._statements.items()))
             self._make(Operation.FORGET, statement.number, None, self._note_forgotten, oldest)

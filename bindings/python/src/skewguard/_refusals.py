@@ -74,7 +74,8 @@ _FAULTS: Dict[int, str] = {
     Fault.OTHER_LIBRARY: "the library is another one than this package was written for",
     Fault.RETRIED: "a with block can't run its body again: for retry give the body as a function to Manager.run, or "
     "put this transaction in front of it as a decorator",
-    Fault.USED: "a transaction is for one block: ask the manager for another",
+    Fault.USED: "a block begins its transaction, and this one has begun before: ask the manager for another by "
+    "transaction()",
 }
 _FAULT_CLASSES: Dict[int, Type[Exception]] = {
     Status.REPLY_WAITS: errors.ReplyLost,

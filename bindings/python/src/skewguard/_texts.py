@@ -9,11 +9,11 @@ from __future__ import annotations
 import re
 from collections.abc import Mapping
 from functools import lru_cache
-from typing import Any, Iterable, Iterator, Sequence, Tuple, Union
+from typing import Any, Iterable, Iterator, Optional, Sequence, Tuple, Union
 
 from .errors import ParameterError
 
-__all__ = ["taken", "tokens"]
+__all__ = ["first_word", "taken", "tokens", "unended"]
 
 Values = Union[Iterable[Any], "Mapping[str, Any]"]
 
@@ -35,6 +35,22 @@ def tokens(text: str) -> Iterator[Tuple[str, str]]:
     for found in _TOKEN.finditer(text):
         assert found.lastgroup is not None
         yield found.lastgroup, found.group()
+
+
+def unended(sql: str) -> Optional[str]:
+    """A statement without the `;` at its end, with which scripts have it; None where it has none."""
+    at = end = 0
+    last = ""
+    for kind, token in tokens(sql):
+        if kind != "gap":
+            last, end = token, at
+        at += len(token)
+    return sql[:end] if last == ";" else None
+
+
+def first_word(sql: str) -> str:
+    """The first token of a statement, in upper case; empty where it has none."""
+    return next((token.upper() for kind, token in tokens(sql) if kind != "gap"), "")
 
 
 @lru_cache(maxsize=256)

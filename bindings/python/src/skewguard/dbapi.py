@@ -14,9 +14,26 @@ statement that is refused leaves nothing behind, and its transaction goes on; a 
 from __future__ import annotations
 
 import datetime
-from typing import Any, Dict, Iterable, Iterator, List, Mapping, Optional, Sequence, Tuple, Type, Union
+import threading
+from typing import (
+    Any,
+    Callable,
+    ContextManager,
+    Dict,
+    Iterable,
+    Iterator,
+    List,
+    Mapping,
+    Optional,
+    Sequence,
+    Tuple,
+    Type,
+    Union,
+)
 
-from ._layout import State
+from ._layout import Fault, State
+from ._refusals import error_of
+from ._texts import first_word, taken
 from .errors import (
     DatabaseError,
     DataError,
@@ -188,8 +205,9 @@ class Connection:
         self._how: Dict[str, Any] = {"read_only": read_only, "session": session}
         self._autocommit = bool(autocommit)
         self._is_closed = False
-        # The open transaction, if there is one: a dict puts it in, or takes it out, in one step for all threads.
-        self._open: Dict[str, Transaction] = {}
+        # The last transaction. Threads take turns to begin one, so that all get the same.
+        self._last: Optional[Transaction] = None
+        self._turn = threading.RLock()
 
     def cursor(self) -> Cursor:
         """A cursor. Those of a connection see each other's changes at once."""
@@ -203,22 +221,20 @@ class Connection:
     def commit(self) -> None:
         """Commits, if a transaction is open. What raises has ended it, but NoMemory has not."""
         self._check_open()
-        transaction = self._current()
-        if transaction is not None:
-            transaction.commit()
+        self._end(Transaction.commit)
 
     def rollback(self) -> None:
         """Rolls back, if a transaction is open."""
         self._check_open()
-        transaction = self._current()
-        if transaction is not None:
-            transaction.rollback()
+        self._end(Transaction.rollback)
 
     def close(self) -> None:
-        """Rolls back, and closes the manager if this connection has opened it. Later calls raise InterfaceError."""
+        """Rolls back, and closes the manager if this connection has opened it. Later calls raise InterfaceError, but
+        for this one."""
         if self._is_closed:
             return
-        self.rollback()
+        if not self.manager.closed:  # with which its transactions are gone
+            self._end(Transaction.rollback)
         self._is_closed = True
         if self._is_own:
             self.manager.close()
@@ -245,26 +261,52 @@ class Connection:
 
     def _current(self) -> Optional[Transaction]:
         """The open transaction, if there is one."""
-        transaction = self._open.get("transaction")
-        if transaction is None or transaction._state == State.OPEN:
+        last = self._last
+        return last if last is not None and last._state == State.OPEN else None
+
+    def _taken_turn(self) -> ContextManager[Any]:
+        """The turn to begin. In the midst of a call none is waited for: who has it may wait for the end of the call."""
+        if self.manager._is_calling:
+            raise error_of(Fault.CALLING, b"")
+        return self._turn
+
+    def _begun(self) -> Transaction:
+        """The open transaction, or one that begins."""
+        with self._taken_turn():
+            transaction = self._current()
+            if transaction is None:
+                transaction = self._last = self.manager.begin(**self._how)
             return transaction
-        self._open.pop("transaction", None)
-        return None
 
     def _run(self, operation: str, parameters: Parameters) -> Result:
         """The answer to a statement, in the open transaction or in one that begins."""
-        self._check_open()
-        transaction = self._current()
-        if transaction is not None:
-            return transaction.execute(operation, parameters)
-        if self._autocommit:
-            with self.manager.transaction(**self._how) as transaction:
+        if isinstance(operation, str) and not isinstance(parameters, (list, tuple)):
+            operation, parameters = taken(operation, parameters)
+        while True:
+            self._check_open()
+            transaction = self._current()
+            if transaction is None and self._autocommit:
+                with self._taken_turn(), self.manager.transaction(**self._how) as transaction:
+                    return transaction.execute(operation, parameters)
+            transaction = transaction or self._begun()
+            try:
                 return transaction.execute(operation, parameters)
-        begun = self.manager.begin(**self._how)
-        transaction = self._open.setdefault("transaction", begun)
-        if transaction is not begun:  # another thread was faster
-            begun.rollback()
-        return transaction.execute(operation, parameters)
+            except InterfaceError:
+                if transaction._state == State.OPEN:
+                    raise
+                # Another thread has ended it: the statement is one of the next.
+
+    def _end(self, by: Callable[[Transaction], Any]) -> None:
+        """Ends the open transaction, if there is one."""
+        transaction = self._current()
+        if transaction is None:
+            return
+        try:
+            by(transaction)
+        except InterfaceError:
+            if transaction._state == State.OPEN:
+                raise
+            # Another thread has ended it.
 
     def __enter__(self) -> Connection:
         self._check_open()
@@ -273,8 +315,11 @@ class Connection:
     def __exit__(self, kind: Optional[Type[BaseException]], *_: object) -> None:
         if kind is None:
             self.commit()
-        else:
+            return
+        try:
             self.rollback()
+        except Error:
+            pass  # the exception that leaves the block says more
 
     def __repr__(self) -> str:
         state = "closed" if self._is_closed else f"open, {'in a' if self.in_transaction else 'no'} transaction"
@@ -329,12 +374,12 @@ class Cursor:
         Where one is refused, that raises, and those before it have been.
         """
         self._forget_rows()
+        word = first_word(operation) if isinstance(operation, str) else ""
+        if word in ("SELECT", "VERDICT", "SET", "BEGIN", "COMMIT", "ROLLBACK"):
+            raise ProgrammingError(f"executemany changes rows, and {word} doesn't: use execute")
         total = 0
         for parameters in seq_of_parameters:
-            result = self.connection._run(operation, parameters)
-            if result.kind not in ("INSERT", "UPDATE", "DELETE"):
-                raise ProgrammingError(f"executemany changes rows, and {result.kind} doesn't: use execute")
-            total += result.count
+            total += self.connection._run(operation, parameters).count
         self.rowcount = total
         return self
 

@@ -5,7 +5,7 @@ from __future__ import annotations
 import functools
 import inspect
 import logging
-from typing import TYPE_CHECKING, Any, Callable, Dict, Iterable, Optional, Tuple, Type, TypeVar
+from typing import TYPE_CHECKING, Any, Callable, Dict, Iterable, NoReturn, Optional, Tuple, Type, TypeVar
 
 from . import _backend
 from ._layout import Fault, Operation, Reader, State, counted, number_bytes, text_bytes
@@ -137,10 +137,15 @@ class Manager(_backend.Engine):
         return Reader(self._call(Operation.REPORT, b"", None)).text()
 
     def __enter__(self) -> Manager:
+        if self.closed:
+            raise error_of(Fault.CLOSED, b"")
         return self
 
     def __exit__(self, *_: object) -> None:
         self.close()
+
+    def __reduce__(self) -> NoReturn:
+        raise TypeError("a manager belongs to its process, and is neither copied nor pickled")
 
     def __repr__(self) -> str:
         count = self._open_transactions
@@ -208,6 +213,9 @@ class Transaction(_backend.Transaction):
             return _run(self, function, arguments, named)
 
         return in_transaction
+
+    def __reduce__(self) -> NoReturn:
+        raise TypeError("a transaction belongs to its manager, and is neither copied nor pickled")
 
     def _check_unbegun(self) -> None:
         if self._state != State.NOT_BEGUN:
