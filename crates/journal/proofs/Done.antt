@@ -1,6 +1,7 @@
 -- Calls that are done at once.
 use Rattle.std.proofs.Common.{◌≡◌, inl, inr, ℕ, ◌+◌, ◌≤◌, List, [], ◌∷◌, ◌++◌, length, take, drop, refl, sym, ◌∙◌, ap, arith, append_assoc, take-append-drop, length-drop}
 use Rattle.std.proofs.lemmas.List.{length-take-le}
+use Rattle.journal.specs.Tails.{zeros}
 use Rattle.journal.specs.Device.{IsEither, Over, Written, Grown, Follows}
 
 either_was : (bytes was : List ℕ) → length was ≡ length bytes → IsEither bytes was was
@@ -61,5 +62,5 @@ over_not at bytes old new within same c is = (
   },
 )
 
-pub grown_to : (old new more : List ℕ) → new ≡ old ++ more → Follows Grown (λ c. c ≡ old) (λ c. c ≡ new)
+pub grown_to : (old new : List ℕ) (more : ℕ) → new ≡ old ++ zeros more → Follows Grown (λ c. c ≡ old) (λ c. c ≡ new)
 grown_to old new more is c left = (old, refl, record { more = more; is = left ∙ is })

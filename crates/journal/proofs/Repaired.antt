@@ -1,20 +1,17 @@
--- What a crash leaves while zeros are written over an end that a crash tore.
-use Rattle.std.proofs.Common.{◌≡◌, inl, inr, ⊎_elim, ℕ, zero, suc, Bool, true, false, List, [], ◌∷◌, ◌++◌, length, Some, refl, sym, ◌∙◌, ap, subst, arith, length-append}
-use Rattle.std.specs.Prelude.{◌==◌, map}
+-- What a journal becomes, and what a crash leaves of it, while zeros are written over what a crash left behind its lines.
+use Rattle.std.proofs.Common.{◌≡◌, inl, inr, ⊎_elim, ℕ, ◌+◌, Bool, true, false, List, [], ◌∷◌, ◌++◌, length, refl, sym, ◌∙◌, ap, subst, arith, length-append}
+use Rattle.std.specs.Prelude.{◌==◌, Some}
 use Rattle.std.proofs.lemmas.Bool.{cases_eq}
 use Rattle.std.proofs.lemmas.Bool.Decides.{nat_tests}
 use Rattle.std.proofs.lemmas.List.{append-nil}
 use Rattle.journal.specs.declared.entries.Entry.{Entry}
-use Rattle.journal.specs.Spelling as spelled
-use Rattle.journal.specs.Spelling.{lines}
-use Rattle.journal.specs.Tails.{with_first, lines_from, lines_of, zeros}
+use Rattle.journal.specs.Tails.{with_first, lines_from, lines_of, tail_of, zeros, fed}
 use Rattle.journal.specs.Device.{IsEither, Over, Written}
-use Rattle.journal.specs.Fitting.{AreEntries}
-use Rattle.journal.specs.Recovery.{entries_from, recovered}
+use Rattle.journal.specs.Recovery.{said}
 use Rattle.journal.specs.Journals.{IsBetween}
-use Rattle.journal.proofs.Torn.{whole_lines}
-use Rattle.journal.proofs.Crash.{lines_are, all_lines, lines_again}
-use Rattle.journal.proofs.Settled.{cut_front, cut_behind}
+use Rattle.journal.proofs.Shapes.{whole, said_parts, shape_said}
+use Rattle.journal.proofs.Silent.{zeroed_torn}
+use Rattle.journal.proofs.Settled.{Rests, rests, unchanged, cut_front, cut_behind, length_zeros}
 
 -- no line is in front where one byte more makes none
 none_behind : (b : ℕ) (ls : List (List ℕ)) → with_first b ls ≡ [] → ls ≡ []
@@ -76,47 +73,49 @@ length_either (b ∷ bytes) [] now either = absurd either
 length_either (b ∷ bytes) (w ∷ was) [] either = absurd either
 length_either (b ∷ bytes) (w ∷ was) (c ∷ cs) either = omega (arith, length_either bytes was cs either.1)
 
-pub length_zeros : (n : ℕ) → length (zeros n) ≡ n
-length_zeros zero = refl
-length_zeros (suc n) = omega (arith, length_zeros n)
-
 nothing_left : (was behind : List ℕ) → length behind ≡ 0 → behind ≡ []
 nothing_left was [] none = refl
 nothing_left was (b ∷ behind) none = absurd (omega (arith, none))
 
 -- a whole repair
-pub whole_repair : (es : List Entry) (tail blank old new : List ℕ) (at room : ℕ) → at ≡ length (lines es) → room ≡ length tail → blank ≡ zeros room → old ≡ lines es ++ tail
-    → Written at blank old new → new ≡ lines es ++ zeros room
-whole_repair es tail blank old new at room at_is room_is blank_is old_is written =
-    let same : length (lines es) ≡ length written.front = sym (written.at_is ∙ at_is) in
-    let whole : lines es ++ tail ≡ written.front ++ (written.was ++ written.behind) = sym old_is ∙ written.old_is in
-    let front_is = cut_front (lines es) tail written.front (written.was ++ written.behind) same whole in
-    let tail_is = cut_behind (lines es) tail written.front (written.was ++ written.behind) same whole in
+pub whole_repair : (first : ℕ) (es : List Entry) (at room : ℕ) (blank d new : List ℕ) → said first d ≡ Some es → at ≡ length (fed (lines_of d)) → room ≡ length (tail_of d) → blank ≡ zeros room
+    → Written at blank d new → Rests first es new at room
+whole_repair first es at room blank d new entries at_is room_is blank_is written =
+    let s = said_parts first es d entries in
+    let w = whole d in
+    let same : length (fed (lines_of d)) ≡ length written.front = sym (written.at_is ∙ at_is) in
+    let parts : fed (lines_of d) ++ tail_of d ≡ written.front ++ (written.was ++ written.behind) = sym w.0 ∙ written.old_is in
+    let front_is = cut_front (fed (lines_of d)) (tail_of d) written.front (written.was ++ written.behind) same parts in
+    let tail_is = cut_behind (fed (lines_of d)) (tail_of d) written.front (written.was ++ written.behind) same parts in
     let all : written.behind ≡ [] = nothing_left written.was written.behind (omega (arith, written.same_length, ap length blank_is, length_zeros room, room_is, ap length tail_is, length-append written.was written.behind)) in
-    written.new_is ∙ (λ i. (sym front_is) i ++ (blank_is i ++ all i)) ∙ ap (λ (l : List ℕ). lines es ++ l) (append-nil (zeros room))
-
--- lines of entries, and an end without a whole line
-pub says : (first : ℕ) (es : List Entry) (tail c : List ℕ) → AreEntries first es → lines_of tail ≡ [] → c ≡ lines es ++ tail → IsBetween first es [] c
-says first es tail c are none is =
-    let read : recovered first c ≡ Some (es ++ []) =
-    ap (recovered first) (is ∙ ap (λ (l : List ℕ). l ++ tail) (lines_are es))
-    ∙ ap (entries_from first) (whole_lines (map spelled.line es) tail (all_lines es are.fit) ∙ ap (λ (ls : List (List ℕ)). map spelled.line es ++ ls) none ∙ append-nil (map spelled.line es))
-    ∙ lines_again first es are.numbered are.fit ∙ ap (λ (l : List Entry). Some l) (sym (append-nil es)) in
-    let nought : ℕ = 0 in
-    (nought, omega arith, read)
+    let new_is : new ≡ fed (lines_of d) ++ zeros room =
+    written.new_is ∙ (λ i. (sym front_is) i ++ (blank_is i ++ all i)) ∙ ap (λ (l : List ℕ). fed (lines_of d) ++ l) (append-nil (zeros room)) in
+    let r = rests first es new (lines_of d) room s.each s.says new_is in
+    record { entries = r.entries; end_is = at_is ∙ r.end_is; blank = r.blank }
 
 -- a repair that a crash cuts short
-pub torn_repair : (first : ℕ) (es : List Entry) (tail blank d c : List ℕ) (at room : ℕ) → AreEntries first es → lines_of tail ≡ [] → at ≡ length (lines es) → room ≡ length tail → blank ≡ zeros room
-    → d ≡ lines es ++ tail → Over at blank d c → IsBetween first es [] c
-torn_repair first es tail blank d c at room are none at_is room_is blank_is d_is over =
-    let same : length (lines es) ≡ length over.front = sym (over.at_is ∙ at_is) in
-    let whole : lines es ++ tail ≡ over.front ++ (over.was ++ over.behind) = sym d_is ∙ over.old_is in
-    let front_is = cut_front (lines es) tail over.front (over.was ++ over.behind) same whole in
-    let tail_is = cut_behind (lines es) tail over.front (over.was ++ over.behind) same whole in
+pub torn_repair : (first : ℕ) (es batch : List Entry) (at room : ℕ) (blank d c : List ℕ) → said first d ≡ Some es → at ≡ length (fed (lines_of d)) → room ≡ length (tail_of d) → blank ≡ zeros room
+    → Over at blank d c → IsBetween first es batch c
+torn_repair first es batch at room blank d c entries at_is room_is blank_is over =
+    let s = said_parts first es d entries in
+    let w = whole d in
+    let same : length (fed (lines_of d)) ≡ length over.front = sym (over.at_is ∙ at_is) in
+    let parts : fed (lines_of d) ++ tail_of d ≡ over.front ++ (over.was ++ over.behind) = sym w.0 ∙ over.old_is in
+    let front_is = cut_front (fed (lines_of d)) (tail_of d) over.front (over.was ++ over.behind) same parts in
+    let tail_is = cut_behind (fed (lines_of d)) (tail_of d) over.front (over.was ++ over.behind) same parts in
     let long : length over.was ≡ length blank = length_either blank over.was over.now over.either in
     let all : over.behind ≡ [] = nothing_left over.was over.behind (omega (arith, long, ap length blank_is, length_zeros room, room_is, ap length tail_is, length-append over.was over.behind)) in
-    let was_is : over.was ≡ tail = sym (append-nil over.was) ∙ ap (λ (l : List ℕ). over.was ++ l) (sym all) ∙ sym tail_is in
-    let either : IsEither (zeros (length tail)) tail over.now =
-    subst (λ (t : List ℕ). IsEither (zeros (length tail)) t over.now) was_is (subst (λ (b : List ℕ). IsEither b over.was over.now) (blank_is ∙ ap zeros room_is) over.either) in
-    says first es over.now c are (zeroed false tail over.now none either)
-    (over.new_is ∙ (λ i. (sym front_is) i ++ (over.now ++ all i)) ∙ ap (λ (l : List ℕ). lines es ++ l) (append-nil over.now))
+    let was_is : over.was ≡ tail_of d = sym (append-nil over.was) ∙ ap (λ (l : List ℕ). over.was ++ l) (sym all) ∙ sym tail_is in
+    let either : IsEither (zeros (length (tail_of d))) (tail_of d) over.now =
+    subst (λ (t : List ℕ). IsEither (zeros (length (tail_of d))) t over.now) was_is (subst (λ (b : List ℕ). IsEither b over.was over.now) (blank_is ∙ ap zeros room_is) over.either) in
+    let c_is : c ≡ fed (lines_of d) ++ over.now =
+    over.new_is ∙ (λ i. (sym front_is) i ++ (over.now ++ all i)) ∙ ap (λ (l : List ℕ). fed (lines_of d) ++ l) (append-nil over.now) in
+    unchanged first es batch c (shape_said first es c (record {
+      lines = lines_of d;
+      tail = over.now;
+      is = c_is;
+      each = s.each;
+      says = s.says;
+      none = zeroed false (tail_of d) over.now s.none either;
+      torn = zeroed_torn (first + length es) (tail_of d) over.now s.torn either;
+    }))

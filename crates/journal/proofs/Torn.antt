@@ -2,10 +2,11 @@
 use Rattle.std.proofs.Common.{◌≡◌, ◌⊎◌, inl, inr, ⊎_elim, ℕ, true, suc, ◌≤◌, List, [], ◌∷◌, ◌++◌, length, take, refl, sym, ◌∙◌, ap, subst, arith, append_assoc}
 use Rattle.std.specs.List.{AllByRecursion}
 use Rattle.std.proofs.lemmas.Bool.Decides.{nat_tests}
+use Rattle.journal.specs.Recovery.{begins_torn}
 use Rattle.journal.specs.Tails.{with_first, lines_from, lines_of, fed, IsPlainByte, IsLine, IsMixed}
 
 -- a byte of a line goes in front of the first line
-plain_first : (b : ℕ) (bs : List ℕ) → IsPlainByte b → lines_from true (b ∷ bs) ≡ with_first b (lines_from true bs)
+pub plain_first : (b : ℕ) (bs : List ℕ) → IsPlainByte b → lines_from true (b ∷ bs) ≡ with_first b (lines_from true bs)
 plain_first b bs plain = grind (arith, nat_tests, plain.0, plain.1)
 
 -- the rest of a line, and what stands behind it
@@ -67,15 +68,26 @@ parts (x ∷ a) b (y ∷ c) mixed =
     let p = parts a b c mixed.1 in
     record { first = y ∷ p.first; second = p.second; is = ap (λ (l : List ℕ). y ∷ l) p.is; of_first = (mixed.0, p.of_first); of_second = p.of_second }
 
--- the first of some lines
-pub record AreFirst (lines read : List (List ℕ)) : Type 0 where
+-- the first of some lines, and a tail with no whole line in front
+pub record AreFirst (lines : List (List ℕ)) (bytes : List ℕ) : Type 0 where
   pub count : ℕ
   pub within : count ≤ length lines
-  pub is : read ≡ take count lines
+  pub tail : List ℕ
+  pub is : bytes ≡ fed (take count lines) ++ tail
+  pub none : lines_of tail ≡ []
+  pub begins : begins_torn tail ≡ true
 
--- Lines that were written over zeros: the first of them are read, whole and in their order, and no other.
-pub mixed_lines : (lines : List (List ℕ)) (c rest : List ℕ) → AllByRecursion IsLine lines → IsMixed (fed lines) c → AreFirst lines (lines_of (c ++ 0 ∷ rest))
-mixed_lines [] [] rest each mixed = record { count = 0; within = omega arith; is = refl }
+mixed_begins : (line : List ℕ) (lines : List (List ℕ)) (c rest : List ℕ) → IsMixed (fed (line ∷ lines)) c → begins_torn (c ++ rest) ≡ true
+mixed_begins line lines [] rest mixed = absurd mixed
+mixed_begins line lines (x ∷ c) rest mixed =
+    ⊎_elim
+    (λ z. ap (λ (y : ℕ). begins_torn (y ∷ c ++ rest)) z)
+    (λ f. ap (λ (y : ℕ). begins_torn (y ∷ c ++ rest)) f)
+    mixed.0
+
+-- Lines that were written over zeros: the first of them are whole, in their order, and no other stands behind them.
+pub mixed_lines : (lines : List (List ℕ)) (c rest : List ℕ) → AllByRecursion IsLine lines → IsMixed (fed lines) c → AreFirst lines (c ++ 0 ∷ rest)
+mixed_lines [] [] rest each mixed = record { count = 0; within = omega arith; tail = 0 ∷ rest; is = refl; none = refl; begins = refl }
 mixed_lines [] (x ∷ c) rest each mixed = absurd mixed
 mixed_lines (line ∷ lines) c rest each mixed =
     let p = parts (10 ∷ (line ++ 10 ∷ [])) (fed lines) c (subst (λ (t : List ℕ). IsMixed (10 ∷ t) c) (sym (append_assoc line (10 ∷ []) (fed lines))) mixed) in
@@ -86,16 +98,20 @@ mixed_lines (line ∷ lines) c rest each mixed =
     record {
       count = suc more.count;
       within = omega (arith, more.within);
-      is = ap lines_of (whole_is ∙ ap (λ (t : List ℕ). t ++ (p.second ++ 0 ∷ rest)) whole ∙ ap (λ (t : List ℕ). 10 ∷ t) (append_assoc line (10 ∷ []) (p.second ++ 0 ∷ rest)))
-          ∙ whole_first line (p.second ++ 0 ∷ rest) each.0
-          ∙ ap (λ (ls : List (List ℕ)). line ∷ ls) more.is;
+      tail = more.tail;
+      is = whole_is ∙ ap (λ (t : List ℕ). t ++ (p.second ++ 0 ∷ rest)) whole
+          ∙ ap (λ (t : List ℕ). 10 ∷ t) (append_assoc line (10 ∷ []) (p.second ++ 0 ∷ rest))
+          ∙ ap (λ (t : List ℕ). 10 ∷ (line ++ 10 ∷ t)) more.is
+          ∙ ap (λ (t : List ℕ). 10 ∷ t) (sym (append_assoc line (10 ∷ fed (take more.count lines)) more.tail));
+      none = more.none;
+      begins = more.begins;
     })
-    (λ none. record { count = 0; within = omega arith; is = ap lines_of whole_is ∙ none })
+    (λ none. record {
+      count = 0;
+      within = omega arith;
+      tail = c ++ 0 ∷ rest;
+      is = refl;
+      none = ap lines_of whole_is ∙ none;
+      begins = mixed_begins line lines c (0 ∷ rest) mixed;
+    })
     (mixed_line line p.first (p.second ++ 0 ∷ rest) each.0 p.of_first)
-
--- Behind lines that are on the disk.
-pub torn : (old lines : List (List ℕ)) (c rest : List ℕ) → AllByRecursion IsLine old → AllByRecursion IsLine lines → IsMixed (fed lines) c
-    → (count : ℕ) × (count ≤ length lines) × (lines_of (fed old ++ (c ++ 0 ∷ rest)) ≡ old ++ take count lines)
-torn old lines c rest each more mixed =
-    let read = mixed_lines lines c rest more mixed in
-    (read.count, read.within, whole_lines old (c ++ 0 ∷ rest) each ∙ ap (λ (ls : List (List ℕ)). old ++ ls) read.is)

@@ -2,6 +2,7 @@
 use Rattle.std.specs.Prelude.{◌<◌, ◌≡◌, ◌⊎◌, ℕ, ◌≤◌, List, [], ◌∷◌, ◌++◌, length, Result, IsErrOf, ⊤}
 use Rattle.journal.specs.declared.device.DeviceFault.{DeviceFault}
 use Rattle.journal.specs.declared.device.DeviceFault.TheVariants.{Failed}
+use Rattle.journal.specs.Tails.{zeros}
 
 -- each byte is the one that was there, or the one that was to be written over it
 abbrev pub IsEither : (bytes was now : List ℕ) → Type 0
@@ -30,10 +31,10 @@ pub record Written (at : ℕ) (bytes old new : List ℕ) : Type 0 where
   pub old_is : old ≡ front ++ (was ++ behind)
   pub new_is : new ≡ front ++ (bytes ++ behind)
 
--- any bytes more
+-- some zeros more
 pub record Grown (old new : List ℕ) : Type 0 where
-  pub more : List ℕ
-  pub is : new ≡ old ++ more
+  pub more : ℕ
+  pub is : new ≡ old ++ zeros more
 
 -- each new outcome of a crash is an old outcome after a step
 abbrev pub Follows : (List ℕ → List ℕ → Type 0) → (List ℕ → Type 0) → (List ℕ → Type 0) → Type 0

@@ -1,5 +1,5 @@
 -- Lines before the first zero, and what a crash makes of lines that are written over zeros.
-use Rattle.std.specs.Prelude.{◌≡◌, ◌≢◌, ◌⊎◌, ℕ, Bool, true, false, List, [], ◌∷◌, ◌++◌, replicate, ◌==◌, if◌then◌else◌, ⊤}
+use Rattle.std.specs.Prelude.{◌≡◌, ◌≢◌, ◌⊎◌, ℕ, Bool, true, false, List, [], ◌∷◌, ◌++◌, length, drop, replicate, ◌==◌, if◌then◌else◌, ⊤}
 use Rattle.std.specs.List.{AllByRecursion}
 
 -- in front of the first of some lines, if there is one
@@ -22,6 +22,10 @@ lines_of file = lines_from false file
 abbrev pub fed : List (List ℕ) → List ℕ
 fed [] = []
 fed (line ∷ lines) = 10 ∷ (line ++ 10 ∷ fed lines)
+
+-- what stands behind the whole lines of a file
+abbrev pub tail_of : List ℕ → List ℕ
+tail_of file = drop (length (fed (lines_of file))) file
 
 -- so many zeros
 abbrev pub zeros : ℕ → List ℕ
