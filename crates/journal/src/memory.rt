@@ -1,5 +1,5 @@
-//! A file in memory. Each call is done at once, so a crash leaves what is there. It keeps each past content, by which it
-//! is a device: so the model of one can be met.
+//! A file in memory. Each call is done at once, so a crash leaves what is there. It keeps each past content, by which
+//! it is a device: so the model of one can be met.
 
 ghost use Rattle.std.specs.Prelude.{◌≡◌, ◌⊎◌, ◌≤◌, ◌+◌, [], ◌∷◌, ◌++◌, length, drop, IfOk, OnOk, OnErr};
 ghost use Rattle.std.proofs.Common.{inl};
