@@ -5,6 +5,8 @@
     refusing    a run in which the system refuses memory or threads
     reports     the lines of a report, by the events that they answer
     loads       tables with rules, and scripts over them
+    measures    what a run takes, and figures as docs/PERFORMANCE.md has them
+    servers     a PostgreSQL of one's own
     crates      crates.txt and the kit
 
 Its tests: python3 -m unittest discover -s tools/harness/tests -t tools

@@ -6,7 +6,7 @@ import sys
 import tempfile
 import unittest
 
-from harness import crates, loads, programs, refusing, reports, texts
+from harness import crates, loads, measures, programs, refusing, reports, texts
 
 # Answers with what it is given: its words, its files, its standard input.
 ECHO = """
@@ -131,6 +131,30 @@ class Loads(unittest.TestCase):
         self.assertEqual("".join(loads.script([("A", "BEGIN"), ("B", "COMMIT", "what else")])), "A: BEGIN;\nB: COMMIT;\n")
         self.assertEqual("".join(loads.transactions(["X", "Y"], "COMMIT", "ROLLBACK", "S")),
             "S: COMMIT;\nS: X;\nS: ROLLBACK;\nS: COMMIT;\nS: Y;\nS: ROLLBACK;\n")
+
+
+class Measures(unittest.TestCase):
+    def test_launched(self):
+        with tempfile.TemporaryDirectory() as folder:
+            used = measures.launched(["/bin/echo", "said"], f"{folder}/output")
+            self.assertEqual(texts.read(f"{folder}/output"), "said\n")
+            self.assertGreater(used.memory, 1 << 20)
+            self.assertLess(used.seconds, 10)
+            measures.launched(["/bin/false"], os.devnull, end=1)
+            with self.assertRaises(SystemExit):
+                measures.launched(["/bin/false"], os.devnull)
+
+    def test_figures(self):
+        figures = measures.Figures()
+        figures["us"] += [3.0, 1.0, 2.5]
+        self.assertEqual((figures.middle("us"), figures.middle("none")), (2.5, None))
+        self.assertEqual(measures.spread("us", figures["us"], 1), "us 1.0 2.5 3.0")
+        self.assertEqual(measures.spread("us", [], 1), "us -")
+        self.assertAlmostEqual(measures.exponent([(10, 5), (100, 500)]), 2)
+        self.assertIsNone(measures.exponent([(10, 5), (100, None)]))
+        self.assertEqual([measures.digits(it) for it in (1234, 12, 1.26, 0.0123, None)],
+            ["1,200", "12", "1.3", "0.012", "-"])
+        self.assertEqual(measures.numbers_of("1,20"), [1, 20])
 
 
 class Crates(unittest.TestCase):
