@@ -21,6 +21,8 @@ this compiles), until a run meets no refusal. One of these must come of it:
 And where an event was answered so and stands in the script once more right behind, it is answered the second time as it
 would have been the first.
 """
+import collections
+import itertools
 import os
 import re
 import sys
@@ -89,34 +91,27 @@ class Program:
         return run_refusing([self.path, *words], self.shim, **told) if told else (run([self.path, *words]), 0)
 
 
-def refused_event(output, events):
-    """The place of the event that was answered that there is no memory, if one was."""
-    return next(iter(places_without_memory(output, events)), None)
-
-
 def judge(program, definitions, events, words, whole, got):
     """What came of a refused allocation, as a word; or None where it is none of what may come."""
-    (status, out, err), _ = got
-    if found := found_none(got[0]):
+    if found := found_none(got):
         return found
-    if status != 0 or err:
+    if got.status != 0 or got.error:
         return None
-    at = refused_event(out, events)
-    if at is None:
-        return "as ever" if out == whole else None
+    refused = places_without_memory(got.output, events)
+    if not refused:
+        return "as ever" if got.output == whole else None
+    at = refused[0]
     without = program.run(definitions, events[:at] + events[at + 1:], words)[0].output
-    return "an event" if out == with_refused(without, events, [at]) else None
+    return "an event" if got.output == with_refused(without, events, [at]) else None
 
 
-def each_refusal(program, definitions, events, words):
+def each_refusal(run):
     """Each number, and what came of it, until a run meets no refusal."""
-    number = 1
-    while True:
-        got = program.run(definitions, events, words, number)
-        if not got[1]:
+    for number in itertools.count(1):
+        answer, refused = run(number)
+        if not refused:
             return
-        yield number, got
-        number += 1
+        yield number, answer
 
 
 def again(program, definitions, events, words, at, whole):
@@ -124,8 +119,8 @@ def again(program, definitions, events, words, at, whole):
     twice = events[:at + 1] + events[at:]
     wanted = with_refused(whole, twice, [at])
     met = wrong = 0
-    for _, (got, _) in each_refusal(program, definitions, twice, words):
-        if got.status == 0 and refused_event(got.output, twice) == at:
+    for _, got in each_refusal(lambda number: program.run(definitions, twice, words, number)):
+        if got.status == 0 and places_without_memory(got.output, twice)[:1] == [at]:
             met += 1
             wrong += got.output != wanted
     return met, wrong
@@ -141,18 +136,17 @@ def judge_test(got):
 
 def refuse_in_test(program, name):
     """How often each came of the test's refused allocations, and how many differ."""
-    count, number = {}, 1
-    while (last := program.call([name], REFUSE=number))[1]:
-        got = last[0]
+    count = collections.Counter()
+    for number, got in each_refusal(lambda number: program.call([name], REFUSE=number)):
         what = judge_test(got)
         if what is None:
             print(f"DIFFERS  {name}, allocation {number}: status {got.status}\n{got.output}{got.error}")
-        count[what] = count.get(what, 0) + 1
-        number += 1
-    if number == 1 or last[0].status != 0:
-        print(f"DIFFERS  {name}: no allocation was refused, or it fails with all of them: status {last[0].status}")
-        count[None] = count.get(None, 0) + 1
-    return count, count.get(None, 0)
+        count[what] += 1
+    status = program.call([name])[0].status
+    if not count or status != 0:
+        print(f"DIFFERS  {name}: no allocation was refused, or it fails with all of them: status {status}")
+        count[None] += 1
+    return dict(count), count[None]
 
 
 def refuse_behind(program, name):
@@ -189,18 +183,17 @@ def main(path, names):
         for name in names or HISTORIES:
             definitions, events, words = HISTORIES[name]
             whole = program.run(definitions, events, words)[0].output
-            count = {}
-            for number, got in each_refusal(program, definitions, events, words):
+            count = collections.Counter()
+            for number, got in each_refusal(lambda number: program.run(definitions, events, words, number)):
                 what = judge(program, definitions, events, words, whole, got)
                 if what is None:
                     bad += 1
-                    status, out, err = got[0]
-                    print(f"DIFFERS  {name}, allocation {number}: status {status}, {err!r}\n{out}")
-                count[what] = count.get(what, 0) + 1
+                    print(f"DIFFERS  {name}, allocation {number}: status {got.status}, {got.error!r}\n{got.output}")
+                count[what] += 1
             tried = [again(program, definitions, events, words, at, whole) for at in range(len(events))]
             met, otherwise = (sum(column) for column in zip(*tried))
             bad += otherwise
-            print(f"{name}: {sum(count.values())} allocations refused: {count}; tried again {met} times,"
+            print(f"{name}: {sum(count.values())} allocations refused: {dict(count)}; tried again {met} times,"
                 f" {otherwise} answered otherwise")
     print(f"{bad} differ")
     return bad != 0
