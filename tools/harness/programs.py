@@ -24,11 +24,11 @@ def run(words: typing.Iterable[object], given: Text = "", kib: typing.Optional[i
         more: typing.Optional[typing.Mapping[str, str]] = None, **how: typing.Any) -> Answer:
     """One run of a command, with a text on its standard input.
 
-    It may have so many KiB of address space, and its environment has more than this one's. What else is given is for
-    subprocess.run.
+    It may have so many KiB of address space, and a minute; its environment has more than this one's. What else is
+    given, as another timeout, is for subprocess.run.
     """
     limit = functools.partial(resource.setrlimit, resource.RLIMIT_AS, (kib << 10,) * 2) if kib else None
-    how = {"stdout": subprocess.PIPE, "stderr": subprocess.PIPE, "timeout": 120, "check": False, **how}
+    how = {"stdout": subprocess.PIPE, "stderr": subprocess.PIPE, "timeout": 60, "check": False, **how}
     done = subprocess.run(list(map(str, words)), input=given.encode("latin-1") if isinstance(given, str) else given,
         env={**os.environ, **(more or {})}, preexec_fn=limit, **how)
     return Answer(done.returncode, *((text or b"").decode("latin-1") for text in (done.stdout, done.stderr)))
