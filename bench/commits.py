@@ -37,10 +37,10 @@ import statistics
 import sys
 import tempfile
 
-from replays import built, digits, exponent, least_memory, machine, power, replay, table, written
+from replays import (
+    built, digits, exponent, least_memory, loads, machine, measured_replay, numbers_of, power, spread, table, written)
 
 TRANSACTIONS = 20_000  # of all sessions together
-MEMBERS = 4  # of a shift or an owner
 HISTORY_KEYS = 1_000
 
 # More repetitions of the short histories, in which loading is a greater part, and one of the longest.
@@ -59,18 +59,12 @@ class OnCall(Load):
 
     name = "on-call"
 
-    def definitions(self, keys):
-        yield "CREATE TABLE SHIFTS (ID INTEGER PRIMARY KEY);\n"
-        yield "CREATE TABLE DUTY (ID INTEGER PRIMARY KEY, SHIFT INTEGER NOT NULL, ONCALL INTEGER NOT NULL);\n"
-        yield "CREATE ASSERTION COVERED CHECK (NOT EXISTS (SELECT * FROM SHIFTS S WHERE NOT EXISTS"
-        yield " (SELECT * FROM DUTY D WHERE D.SHIFT = S.ID AND D.ONCALL = 1)));\n"
-        yield from (f"INSERT INTO SHIFTS VALUES ({shift});\n" for shift in range(keys // MEMBERS))
-        yield from (f"INSERT INTO DUTY VALUES ({key}, {key // MEMBERS}, {1 - key % 2});\n" for key in range(keys))
+    definitions = staticmethod(loads.on_call)
 
     def statements(self, drawn, keys):
         """Statements of one transaction, each with its reply; a SELECT's goes on with the row."""
         comes = drawn.randrange(keys)
-        goes = comes - comes % MEMBERS + (comes + drawn.randrange(1, MEMBERS)) % MEMBERS
+        goes = comes - comes % loads.MEMBERS + (comes + drawn.randrange(1, loads.MEMBERS)) % loads.MEMBERS
         if self.look:
             yield f"SELECT ONCALL FROM DUTY WHERE ID = {comes}", "SELECT 1"
         yield f"UPDATE DUTY SET ONCALL = 1 WHERE ID = {comes}", "UPDATE 1"
@@ -82,10 +76,7 @@ class Ledger(Load):
 
     name = "ledger"
 
-    def definitions(self, keys):
-        yield "CREATE TABLE ACCT (ID INTEGER PRIMARY KEY, OWNER INTEGER NOT NULL, BAL INTEGER NOT NULL);\n"
-        yield "CREATE ASSERTION FUNDS CHECK (NOT EXISTS (SELECT OWNER FROM ACCT GROUP BY OWNER HAVING SUM(BAL) < 0));\n"
-        yield from (f"INSERT INTO ACCT VALUES ({key}, {key // MEMBERS}, 1000000);\n" for key in range(keys))
+    definitions = staticmethod(loads.ledger)
 
     def statements(self, drawn, keys):
         """Statements of one transaction, each with its reply; a SELECT's goes on with the row."""
@@ -120,10 +111,6 @@ def history(commits, behind, end="COMMIT"):
         yield "A", end, end
     if behind:
         yield "W", "ROLLBACK", "ROLLBACK"
-
-
-def script(events):
-    return (f"{session}: {event};\n" for session, event, _ in events)
 
 
 def looked_at(output, events):
@@ -173,21 +160,17 @@ def expect(lines, want):
         sys.exit(f"the closing part has {line} and not {want}")
 
 
-def spread(name, numbers, places):
-    return f"{name} {' '.join(f'{number:.{places}f}' for number in sorted(numbers))}"
-
-
 def at_once(program, load, keys, sizes, repetitions, folder):
     """For each number of open transactions a row of the table."""
     definitions = written(f"{folder}/defs", load.definitions(keys))
     empty, output = written(f"{folder}/empty", []), f"{folder}/output"
     rows = []
     for sessions in sizes:
-        path = written(f"{folder}/script", script(turns(load, keys, sessions)))
+        path = written(f"{folder}/script", loads.script(turns(load, keys, sessions)))
         seconds, loading = [], []
         for _ in range(repetitions):
-            loading.append(replay(program, definitions, empty).seconds)
-            seconds.append(replay(program, definitions, path, output).seconds - loading[-1])
+            loading.append(measured_replay(program, definitions, empty).seconds)
+            seconds.append(measured_replay(program, definitions, path, output).seconds - loading[-1])
         commits, refused = looked_at(output, turns(load, keys, sessions))
         used = statistics.median(seconds)
         print(f"{load.name}, {keys} keys, {sessions} open, {commits} commits, refused {refused}, ", end="")
@@ -215,17 +198,17 @@ class Past:
 def past(program, commits, behind, repetitions, folder):
     definitions = written(f"{folder}/defs", Ledger().definitions(HISTORY_KEYS))
     empty, output = written(f"{folder}/empty", []), f"{folder}/output"
-    path = written(f"{folder}/script", script(history(commits, behind)))
+    path = written(f"{folder}/script", loads.script(history(commits, behind)))
     found = Past(commits)
     for _ in range(REPETITIONS_OF_HISTORY.get(commits, repetitions)):
-        alone = replay(program, definitions, empty)
-        whole = replay(program, definitions, path, output, commits)
+        alone = measured_replay(program, definitions, empty)
+        whole = measured_replay(program, definitions, path, output, commits)
         found.all_seconds.append(whole.seconds - alone.seconds)
     found.memory = (whole.memory - alone.memory) / commits
     if looked_at(output, history(commits, behind))[0] != commits:
         sys.exit("a transaction was not committed")
-    written(path, script(history(commits, behind, "ROLLBACK")))
-    found.script = (replay(program, definitions, path, output).memory - alone.memory) / commits
+    written(path, loads.script(history(commits, behind, "ROLLBACK")))
+    found.script = (measured_replay(program, definitions, path, output).memory - alone.memory) / commits
     looked_at(output, history(commits, behind, "ROLLBACK"))
     return found
 
@@ -244,10 +227,6 @@ def print_history(found):
     print(f"\nThe time of a commit grows by the exponent {growth} from {least:,} commits to {most:,}.")
 
 
-def numbers(words):
-    return [int(word) for word in words.split(",") if word]
-
-
 def main():
     words = argparse.ArgumentParser(description="Committed transactions a second, and a commit by those before it.")
     words.add_argument("--program", help="the program skewguard; without it `rt run` builds it")
@@ -264,9 +243,9 @@ def main():
     rows, found = [], []
     with tempfile.TemporaryDirectory() as folder:
         for load in (OnCall(not chosen.without_look), Ledger(not chosen.without_look)):
-            for keys in numbers(chosen.keys):
-                rows += at_once(program, load, keys, numbers(chosen.open), chosen.repetitions, folder)
-        for commits in numbers(chosen.history):
+            for keys in numbers_of(chosen.keys):
+                rows += at_once(program, load, keys, numbers_of(chosen.open), chosen.repetitions, folder)
+        for commits in numbers_of(chosen.history):
             found.append(past(program, commits, chosen.behind, chosen.repetitions, folder))
             print(found[-1], flush=True)
     print(f"load at the end {os.getloadavg()[0]:.1f}")

@@ -25,13 +25,10 @@ import os
 import pathlib
 import random
 import shlex
-import subprocess
 import sys
-import tempfile
 import time
 
-TOP = pathlib.Path(__file__).resolve().parent.parent
-PROGRAM = f"{TOP / 'crates' / 'skewguard' / 'out' / 'skewguard'} replay"
+from replays import PROGRAM, placed, run, write
 
 COMPARISONS = ["<", "<=", ">", ">=", "=", "<>"]
 ATTRIBUTES = ["", "", " DEFERRABLE", " INITIALLY DEFERRED"]
@@ -254,16 +251,14 @@ class Case:
         return made + [f"{session}: COMMIT" for session in left if rng.random() < 0.7]
 
 
-def report(command, folder):
-    """What a command prints on the two files, and its status."""
-    words = shlex.split(command) + [f"{folder}/defs", f"{folder}/script"]
-    ran = subprocess.run(words, capture_output=True, timeout=600)
-    return ran.stdout, ran.stderr, ran.returncode
+def report(command, files):
+    """What a command answers to the two files."""
+    return run([*shlex.split(command), *files], timeout=600)
 
 
 def count_answers(met, output):
     """Counts the answers of a report by their words, refusals by their numbers, up to the closing part."""
-    for line in output.decode("latin1").split("\nCOMMITS ")[0].splitlines():
+    for line in output.split("\nCOMMITS ")[0].splitlines():
         words = line.split()
         if len(words) < 2 or not words[0].endswith(":"):
             continue
@@ -279,15 +274,15 @@ def count_answers(met, output):
 
 def keep_difference(folder, case, want, got):
     os.makedirs(folder, exist_ok=True)
-    for name, text in (("defs", case.definitions.encode()), ("script", case.script.encode()),
-                       ("wanted", want[0] + want[1]), ("got", got[0] + got[1])):
-        pathlib.Path(folder, name).write_bytes(text)
+    for name, text in (("defs", case.definitions), ("script", case.script),
+                       ("wanted", want.output + want.error), ("got", got.output + got.error)):
+        write(pathlib.Path(folder, name), text)
 
 
 def main():
     words = argparse.ArgumentParser(description="Random scripts on large tables, through skewguard and a reference.")
     words.add_argument("--reference", required=True, help="a command that prints the report of DEFS and SCRIPT")
-    words.add_argument("--program", default=PROGRAM, help="the command of the program itself")
+    words.add_argument("--program", default=f"{PROGRAM} replay", help="the command of the program itself")
     words.add_argument("--cases", type=int, default=200)
     words.add_argument("--seed", type=int, default=1)
     words.add_argument("--minutes", type=float, default=10, help="no case is begun after so many")
@@ -295,26 +290,24 @@ def main():
     chosen = words.parse_args()
     met, done, rows, start = collections.Counter(), 0, 0, time.monotonic()
     slow = quick = 0.0
-    with tempfile.TemporaryDirectory() as folder:
-        for number in range(chosen.cases):
-            if time.monotonic() - start > 60 * chosen.minutes:
-                break
-            case = Case(f"{chosen.seed} {number}")
-            pathlib.Path(folder, "defs").write_text(case.definitions)
-            pathlib.Path(folder, "script").write_text(case.script)
+    for number in range(chosen.cases):
+        if time.monotonic() - start > 60 * chosen.minutes:
+            break
+        case = Case(f"{chosen.seed} {number}")
+        with placed(case.definitions, case.script) as files:
             before = time.monotonic()
-            want = report(chosen.reference, folder)
+            want = report(chosen.reference, files)
             between = time.monotonic()
-            got = report(chosen.program, folder)
-            slow, quick = slow + between - before, quick + time.monotonic() - between
-            if want != got:
-                keep_difference(chosen.differs, case, want, got)
-                print(f"case {number} differs: statuses {want[2]} and {got[2]}, see {chosen.differs}/")
-                print(f"{done} passed, 1 failed")
-                return 1
-            count_answers(met, want[0])
-            met["definitions refused"] += want[2] != 0
-            done, rows = done + 1, rows + case.rows
+            got = report(chosen.program, files)
+        slow, quick = slow + between - before, quick + time.monotonic() - between
+        if want != got:
+            keep_difference(chosen.differs, case, want, got)
+            print(f"case {number} differs: statuses {want.status} and {got.status}, see {chosen.differs}/")
+            print(f"{done} passed, 1 failed")
+            return 1
+        count_answers(met, want.output)
+        met["definitions refused"] += want.status != 0
+        done, rows = done + 1, rows + case.rows
     print(f"rows loaded: {rows:,}; seconds: reference {slow:.0f}, program {quick:.1f}")
     print("answers met: " + ", ".join(f"{word}: {count:,}" for word, count in sorted(met.items())))
     print(f"{done} passed, 0 failed")

@@ -50,7 +50,6 @@ import pathlib
 import re
 import shutil
 import sqlite3
-import statistics
 import subprocess
 import sys
 import tempfile
@@ -59,10 +58,11 @@ import time
 
 import threads
 from languages import changes_of, update_of
-from replays import TOP, built, digits, exponent, launched, machine, power, replay, table, written
-from servers import Server, server_programs
+from replays import (
+    TOP, Figures, built, digits, exponent, launched, loads, machine, measured_replay, numbers_of, power, servers, table,
+    written)
 from statements import (FORMS, REFUSE, ROUNDS, ROUNDS_TRIGGERS, SHIFTS, TRIGGERS, Files, add_rule, check_refusals,
-                        check_report, check_totals, in_one_transaction, script_of_rounds, text)
+                        check_report, check_totals, in_one_transaction, script_of_rounds, text, valued)
 
 FORM_NAMES = ("by group", "by row", "single", "no assertion")
 WORKS = ("transaction", "statement")
@@ -101,7 +101,7 @@ PAIRS = [("as run", WHOLE, PREPARED, CLOCK), ("alone", ENGINE, FROM_C, BACKEND)]
 def script_of_transactions(form, rows, count, begin="BEGIN"):
     """Transactions of one UPDATE each; with another word in the place of BEGIN each event is refused."""
     update = update_of(form)
-    return (f"A: {begin};\nA: {text(update, one)}\nA: COMMIT;\n" for one in changes_of(form, rows, count))
+    return loads.transactions((valued(update, one) for one in changes_of(form, rows, count)), begin)
 
 
 def check_transactions(output, form, count):
@@ -127,18 +127,18 @@ def reading(program, folder, script):
 
 def of_skewguard(program, files, small, form, rows, figures):
     """Figures of both works, and of loading."""
-    loading = replay(program, files.definitions, files.empty)
+    loading = measured_replay(program, files.definitions, files.empty)
     figures["loading"].append(loading.seconds)
     unread = reading(program, small.folder, small.empty)
-    idle = replay(program, small.definitions, small.empty).seconds
+    idle = measured_replay(program, small.definitions, small.empty).seconds
     rounds = ROUNDS.get(rows, 20_000)
     for work, (script, check, each) in SCRIPTS.items():
         written(files.script, script(form, rows, rounds))
         written(small.script, script(form, rows, rounds, "COMMIT"))
-        whole = replay(program, files.definitions, files.script, files.output).seconds - loading.seconds
+        whole = measured_replay(program, files.definitions, files.script, files.output).seconds - loading.seconds
         check(files.output, form, rounds)
         text_alone = reading(program, small.folder, files.script) - unread
-        refused = replay(program, small.definitions, small.script).seconds - idle
+        refused = measured_replay(program, small.definitions, small.script).seconds - idle
         for column, seconds in ((WHOLE, whole), (UNREAD, whole - text_alone), (ENGINE, whole - refused)):
             figures[work, column].append(seconds / (each * rounds) * 1e6)
 
@@ -394,7 +394,7 @@ def arithmetic(count):
 
 def of_threads(program, repetitions, folder):
     """Commits a second on disjoint keys, and hashes a second, by numbers of threads."""
-    figures = collections.defaultdict(list)
+    figures = Figures()
     for _ in range(repetitions):
         for count in THREADS:
             figures["commits", count].append(threads.skewguard(program, folder, KEYS, count, THREADED, False)[0])
@@ -408,7 +408,7 @@ def of_threads(program, repetitions, folder):
 def measure(program, server, driver, form, rows, repetitions, folder):
     """The figures of one form and size, by what they are of, in each repetition."""
     files, small = Files(folder, form, rows), small_files(folder, form)
-    copies, figures = write_copies(form, rows, folder) if server else None, collections.defaultdict(list)
+    copies, figures = write_copies(form, rows, folder) if server else None, Figures()
     for _ in range(repetitions):
         of_skewguard(program, files, small, form, rows, figures)
         of_sqlite(driver, form, rows, folder, figures)
@@ -423,10 +423,6 @@ def small_files(folder, form):
     return Files(f"{folder}/small", form, SMALL)
 
 
-def middle(figures, name):
-    return statistics.median(figures[name]) if figures.get(name) else None
-
-
 def tell(form, rows, figures):
     """The least and the greatest of each figure, in one line."""
     ends = []
@@ -439,7 +435,7 @@ def tell(form, rows, figures):
 def print_works(found):
     for work in WORKS:
         rows = [
-            [name, f"{size:,}", *(digits(middle(figures, (work, column))) for column in COLUMNS)]
+            [name, f"{size:,}", *(digits(figures.middle((work, column))) for column in COLUMNS)]
             for (name, size), figures in found.items()
         ]
         table([f"us a {work}", "rows", *COLUMNS], rows)
@@ -455,7 +451,7 @@ BYTES = ("text", "peak", "resident", "resident without text", "SQLite bytes", "P
 
 def row_bytes(form, rows, figures, name):
     """Bytes of one of these kinds for a row of all that are loaded."""
-    count = middle(figures, name)
+    count = figures.middle(name)
     return None if count is None else count / all_rows(form, rows)
 
 
@@ -465,14 +461,14 @@ def print_loading(found, forms):
     heads += ["SQLite", "PostgreSQL"]
     rows = []
     for (name, size), figures in found.items():
-        times = [digits(middle(figures, side)) for side in ("loading", "SQLite loading", "PostgreSQL loading")]
+        times = [digits(figures.middle(side)) for side in ("loading", "SQLite loading", "PostgreSQL loading")]
         counts = [digits(row_bytes(forms[name], size, figures, one), 3) for one in BYTES]
         rows.append([name, f"{size:,}", *times, *counts])
     table(heads, rows)
 
 
 def growth(found, name, sizes, work, column):
-    return exponent([(size, middle(found[name, size], (work, column))) for size in sizes])
+    return exponent([(size, found[name, size].middle((work, column))) for size in sizes])
 
 
 def print_growth(found, forms, sizes):
@@ -488,13 +484,13 @@ def print_growth(found, forms, sizes):
 def print_threads(of_all):
     rows = []
     for what, unit in (("commits", "skewguard, commits a second"), ("hashes", "arithmetic, hashes a second")):
-        cells = [digits(middle(of_all, (what, count)), 3) for count in THREADS]
+        cells = [digits(of_all.middle((what, count)), 3) for count in THREADS]
         rows.append([unit, *cells, digits(speedup(of_all, what))])
     table(["disjoint keys", *(f"threads: {count}" for count in THREADS), "how many times as many"], rows)
 
 
 def speedup(of_all, what):
-    least, most = (middle(of_all, (what, count)) for count in (THREADS[0], THREADS[-1]))
+    least, most = (of_all.middle((what, count)) for count in (THREADS[0], THREADS[-1]))
     return most / least
 
 
@@ -512,7 +508,7 @@ def beside_sqlite(found, forms, sizes):
     for goal, work, least in BESIDE_SQLITE:
         for how, *sides in PAIRS:
             for name in forms:
-                own, lite, other = ([middle(found[name, size], (work, side)) for size in sizes] for side in sides)
+                own, lite, other = ([found[name, size].middle((work, side)) for size in sizes] for side in sides)
                 ratios = [theirs and theirs / ours for ours, theirs in zip(own, lite)]
                 met = verdict(None if None in ratios else all(ratio >= least for ratio in ratios))
                 times = [listed(side, " us") for side in (own, lite, other)]
@@ -523,7 +519,7 @@ def of_loading(found, forms, rows):
     """Rows of the goals of loading and memory. Fewer rows than the goals speak of are not judged."""
     sides = ("loading", "SQLite loading", "PostgreSQL loading")
     for name in forms:
-        own, lite, other = (middle(found[name, rows], side) for side in sides)
+        own, lite, other = (found[name, rows].middle(side) for side in sides)
         met = verdict(own < LOADED_SECONDS if rows == LOADED_ROWS else None)
         goal = f"{LOADED_ROWS:,} rows loaded in under {LOADED_SECONDS} s (figures at {rows:,})"
         yield [goal, name, *(listed([side], " s") for side in (own, lite, other)), digits(lite / own), met]
@@ -574,15 +570,15 @@ def main():
     words.add_argument("--without-postgresql", action="store_true")
     words.add_argument("--without-threads", action="store_true")
     asked = words.parse_args()
-    sizes = sorted(int(size) for size in asked.rows.split(","))
-    counts = [int(count) for count in asked.repetitions.split(",")]
+    sizes = sorted(numbers_of(asked.rows))
+    counts = numbers_of(asked.repetitions)
     repetitions = dict(zip(sizes, counts * len(sizes) if len(counts) == 1 else counts))
     forms = {name: form for name in asked.forms.split(",") for form in FORMS if form.name == name}
     program, memory = asked.program or built(), "/dev/shm" if os.path.isdir("/dev/shm") else None
-    has_server = not asked.without_postgresql and server_programs()
+    has_server = not asked.without_postgresql and servers.server_programs()
     found, of_all = {}, None
     with tempfile.TemporaryDirectory() as folder, tempfile.TemporaryDirectory(dir=memory) as data:
-        server, driver = Server(data) if has_server else None, driver_in_c(folder)
+        server, driver = servers.Server(data) if has_server else None, driver_in_c(folder)
         try:
             version = server.run("postgres", "--version").strip() if server else "no PostgreSQL"
             print(f"SQLite {sqlite3.sqlite_version}, {version}, {machine(asked.repetitions)}", flush=True)

@@ -16,8 +16,8 @@ import subprocess
 import sys
 import tempfile
 
-from replays import table, written
-from statements import ACCT, FORMS, Form, text
+from replays import loads, table, written
+from statements import ACCT, FORMS, Form, text, valued
 
 LEAST = Form("least", [ACCT], "NOT EXISTS (SELECT OWNER FROM ACCT GROUP BY OWNER HAVING MIN(BAL) < 0)")
 KINDS = ("INSERT", "UPDATE", "DELETE")
@@ -39,8 +39,7 @@ def scripts(form, rows, count):
         yield ["A: BEGIN;\n", *lines, "A: ROLLBACK;\n"]
     keys = [2 * (number * 7919 % rows) for number in range(count)]
     # (what no rule is broken by: an account, say, has its own balance or the next one's)
-    updates = (text(form.update, (form.another(key // 2, rows), key)) for key in keys)
-    yield [f"A: BEGIN;\nA: {update}\nA: COMMIT;\n" for update in updates]
+    yield loads.transactions(valued(form.update, (form.another(key // 2, rows), key)) for key in keys)
 
 
 def counted(program, form, rows, count, folder):

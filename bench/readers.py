@@ -17,21 +17,12 @@ not tried again. On PostgreSQL a session may wait for another one's row; its tur
 
 import argparse
 import os
-import queue
 import random
 import re
-import subprocess
-import sys
-import tempfile
-import threading
 import time
 
-sys.path[:0] = [os.path.dirname(os.path.abspath(__file__)),
-                os.path.join(os.path.dirname(os.path.abspath(__file__)), '..', 'tools')]
-
 import psycopg2
-from against_postgresql import Server
-from replays import built
+from replays import built, loads, numbers_of, replay, replies, run_on, servers
 
 ACCOUNTS = 2  # of an owner
 READ = 20  # accounts that a report reads
@@ -40,10 +31,10 @@ NAMES = re.compile(r'\b(ACCT|BAL|ID)\b')  # (the SQL that is printed quotes all 
 
 
 def definitions(owners):
-    rows = ''.join(f"INSERT INTO ACCT VALUES ({owner * 10 + i}, 'O{owner}', 1000);\n"
-                   for owner in range(1, owners + 1) for i in range(ACCOUNTS))
+    rows = ((owner * 10 + i, f"'O{owner}'", 1000) for owner in range(1, owners + 1) for i in range(ACCOUNTS))
     return ('CREATE TABLE ACCT (ID INTEGER PRIMARY KEY, OWNER VARCHAR(10), BAL INTEGER);\n'
-            'CREATE ASSERTION FUNDS CHECK (NOT EXISTS (SELECT OWNER FROM ACCT GROUP BY OWNER HAVING SUM(BAL) < 0));\n' + rows)
+            'CREATE ASSERTION FUNDS CHECK (NOT EXISTS (SELECT OWNER FROM ACCT GROUP BY OWNER HAVING SUM(BAL) < 0));\n'
+            + ''.join(loads.inserts('ACCT', rows)))
 
 
 def report(rng, owners):
@@ -91,16 +82,11 @@ class Counts:
 
 
 def play_program(program, defs, script, begin):
-    text = ''.join(f"S{session}: {begin if event == 'BEGIN READER' else event};\n" for session, event in script)
-    with tempfile.TemporaryDirectory() as folder:
-        names = [os.path.join(folder, name) for name in ('defs', 'script')]
-        for name, content in zip(names, (defs, text)):
-            with open(name, 'w') as file:
-                file.write(content)
-        ran = subprocess.run([program, 'replay', *names], capture_output=True, text=True, check=True)
-    replies = [line for line in ran.stdout.splitlines() if not line.startswith('  ')]
+    events = ((f'S{session}', begin if event == 'BEGIN READER' else event) for session, event in script)
+    ran = replay(program, defs, ''.join(loads.script(events)))
+    assert ran.status == 0, ran
     counts, is_report = Counts(), {}
-    for (session, event), reply in zip(script, replies):
+    for (session, event), (reply, *_) in zip(script, replies(ran.output)):
         if event.startswith('BEGIN'):
             is_report[session] = event == 'BEGIN READER'
         elif event == 'COMMIT':
@@ -110,24 +96,13 @@ def play_program(program, defs, script, begin):
     return counts
 
 
-class Player(threading.Thread):
-    """Plays the turns of a session on a connection of its own."""
+class Player(servers.Player):
+    """Counts how its transactions end."""
 
     def __init__(self, server, schema, begin, counts):
-        super().__init__(daemon=True)
-        self.cursor = server.connect(f'-c search_path={schema} -c enable_seqscan=off -c jit=off').cursor()
-        self.begin, self.counts = begin, counts
-        self.work, self.idle, self.is_report, self.is_lost = queue.Queue(), True, False, False
+        super().__init__(server, schema)
+        self.begin, self.counts, self.is_report, self.is_lost = begin, counts, False, False
         self.start()
-
-    def give(self, event):
-        self.idle = False
-        self.work.put(event)
-
-    def run(self):
-        while (event := self.work.get()) is not None:
-            self.play(event)
-            self.idle = self.work.empty()
 
     def play(self, event):
         if event.startswith('BEGIN'):
@@ -148,14 +123,12 @@ class Player(threading.Thread):
 
 
 def play_postgresql(program, server, defs, script, begin, sessions):
-    with tempfile.NamedTemporaryFile('w') as file:
-        file.write(defs)
-        file.flush()
-        sql = subprocess.run([program, 'postgresql', file.name], capture_output=True, text=True, check=True).stdout
+    printed = run_on([program, 'postgresql'], defs)
+    assert printed.status == 0, printed
     schema = f"readers_{begin.replace(' ', '_').lower()}_{sessions}"
     with server.connect() as connection, connection.cursor() as cursor:
         cursor.execute(f'CREATE SCHEMA {schema}; SET search_path = {schema}')
-        cursor.execute(sql)
+        cursor.execute(printed.output)
         cursor.execute('ANALYZE')
     counts = Counts()
     players = [Player(server, schema, begin, counts) for _ in range(sessions)]
@@ -180,11 +153,11 @@ def main():
     given = parser.parse_args()
     program = os.path.abspath(given.program or built())
     defs = definitions(given.owners)
-    server = Server()
+    server = servers.ServerOfCases()
     try:
         print('| open at once | readers begin | refused here | of the reports | refused by PostgreSQL 15 | of the reports |')
         print('|---:|---|---:|---:|---:|---:|')
-        for sessions in map(int, given.open.split(',')):
+        for sessions in numbers_of(given.open):
             script = turns(given.transactions, sessions, given.owners, given.seed)
             for here, there in (('BEGIN', 'READ WRITE'), ('BEGIN READ ONLY', 'READ ONLY')):
                 ours = play_program(program, defs, script, here)

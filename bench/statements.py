@@ -27,12 +27,13 @@ import argparse
 import os
 import pathlib
 import sqlite3
-import statistics
 import sys
 import tempfile
 import time
 
-from replays import built, digits, exponent, least_memory, machine, power, replay, table, written
+from replays import (
+    Figures, built, digits, exponent, least_memory, loads, machine, measured_replay, numbers_of, power, spread, table,
+    written)
 
 # Rounds of an INSERT, an UPDATE and a DELETE in one repetition, by rows: so many that loading, which is taken off, does
 # not cover them. From scratch fewer do.
@@ -46,9 +47,7 @@ LARGE = 1_000_000
 # At how many rows the memory of a committed change is taken, and of how many commits.
 COMMIT_ROWS, COMMITS = 100_000, 100_000
 
-SHIFTS = "CREATE TABLE SHIFTS (ID INTEGER PRIMARY KEY);"
-DUTY = "CREATE TABLE DUTY (ID INTEGER PRIMARY KEY, SHIFT INTEGER NOT NULL, ONCALL INTEGER NOT NULL);"
-ACCT = "CREATE TABLE ACCT (ID INTEGER PRIMARY KEY, OWNER INTEGER NOT NULL, BAL INTEGER NOT NULL);"
+SHIFTS, DUTY, ACCT = loads.SHIFTS, loads.DUTY, loads.ACCT
 STAYS = """CREATE TABLE STAYS (ID INTEGER PRIMARY KEY, ROOM INTEGER NOT NULL, FROM_DAY INTEGER NOT NULL,
     TO_DAY INTEGER NOT NULL);"""
 WITH_KEY = DUTY.replace("SHIFT INTEGER NOT NULL", "SHIFT INTEGER NOT NULL REFERENCES SHIFTS (ID)")
@@ -113,9 +112,14 @@ class Form:
         return (f"{text(*one)}\n" for one in self.loaded(rows))
 
 
-def text(statement, numbers):
-    """A statement as skewguard reads it, with its numbers put in."""
-    return statement.replace("?", "{}").format(*numbers) + ";"
+def valued(statement, values):
+    """A statement with its values put in."""
+    return statement.replace("?", "{}").format(*values)
+
+
+def text(statement, values):
+    """The same as skewguard reads it."""
+    return f"{valued(statement, values)};"
 
 
 REFUSE = "SELECT RAISE(ABORT, 'RULE')"
@@ -199,8 +203,7 @@ FORMS = [
     Form(
         "by row",
         [SHIFTS, DUTY],
-        "NOT EXISTS (SELECT * FROM SHIFTS S WHERE NOT EXISTS"
-        " (SELECT * FROM DUTY D WHERE D.SHIFT = S.ID AND D.ONCALL = 1))",
+        loads.COVERED,
         "CREATE INDEX BEST ON DUTY (SHIFT, ONCALL)",
         [
             "CREATE TABLE COVER (SHIFT INTEGER PRIMARY KEY, N INTEGER NOT NULL)",
@@ -249,7 +252,7 @@ FORMS = [
     Form(
         "by group",
         [ACCT],
-        "NOT EXISTS (SELECT OWNER FROM ACCT GROUP BY OWNER HAVING SUM(BAL) < 0)",
+        loads.FUNDS,
         "CREATE INDEX BEST ON ACCT (OWNER, BAL)",
         [
             "CREATE TABLE FUNDS (OWNER INTEGER PRIMARY KEY, TOTAL INTEGER NOT NULL)",
@@ -388,8 +391,8 @@ def script_of_rounds(form, rows, rounds, begin="BEGIN"):
 
 def replayed(program, files, form, rounds):
     """What loading alone uses, and the processor seconds of the statements after it."""
-    loading = replay(program, files.definitions, files.empty)
-    whole = replay(program, files.definitions, files.script, files.output)
+    loading = measured_replay(program, files.definitions, files.empty)
+    whole = measured_replay(program, files.definitions, files.script, files.output)
     check_report(files.output, form, rounds)
     return loading, whole.seconds - loading.seconds
 
@@ -485,7 +488,7 @@ def check_refusals(program, form, folder):
         replies.append("A: REFUSED 10 23000 RULE" if breaks else f"A: {statement.split()[0]} 1")
     files = Files(folder, form, 20)
     tries = (f"A: {text(statement, numbers)}\n" for statement, numbers, _ in form.tries)
-    replay(program, files.definitions, written(files.script, ["A: BEGIN;\n", *tries]), files.output)
+    measured_replay(program, files.definitions, written(files.script, ["A: BEGIN;\n", *tries]), files.output)
     report = pathlib.Path(files.output).read_text().splitlines() + [""] * len(replies)
     for found, want in zip(report, replies):
         if not found.startswith(want):
@@ -501,57 +504,43 @@ def refuses(base, statement, numbers):
     return False
 
 
-class Figures:
-    """Of one form and size, in each repetition: seconds and bytes of loading, microseconds a statement on each side."""
-
-    def __init__(self):
-        self.all_loading, self.all_memory, self.all_kept, self.all_scratch, self.all_triggers = [], [], [], [], []
-        self.all_other = []
-
-    loading = property(lambda self: statistics.median(self.all_loading))
-    memory = property(lambda self: statistics.median(self.all_memory))
-    kept = property(lambda self: statistics.median(self.all_kept))
-    scratch = property(lambda self: statistics.median(self.all_scratch) if self.all_scratch else None)
-    triggers = property(lambda self: statistics.median(self.all_triggers))
-    other = property(lambda self: statistics.median(self.all_other) if self.all_other else None)
-
-    def __str__(self):
-        def each(name, numbers, places):
-            return f"{name} {' '.join(f'{number:.{places}f}' for number in sorted(numbers)) or '-'}"
-
-        parts = [("us a statement:", self.all_kept, 2), ("triggers", self.all_triggers, 2)]
-        parts += [("otherwise", self.all_other, 2)] if self.all_other else []
-        parts += [("from scratch", self.all_scratch, 1), ("loading s", self.all_loading, 4)]
-        return ", ".join([*(each(*part) for part in parts), f"{self.memory / 1e6:.1f} MB"])
+def told(figures):
+    """All figures of one form and size, in one line."""
+    parts = [("us a statement:", "kept", 2), ("triggers", "triggers", 2)]
+    parts += [("otherwise", "other", 2)] if figures["other"] else []
+    parts += [("from scratch", "scratch", 1), ("loading s", "loading", 4)]
+    each = [spread(title, figures[name], places) for title, name, places in parts]
+    return ", ".join([*each, f"{figures.middle('memory') / 1e6:.1f} MB"])
 
 
 def measure(program, form, rows, repetitions, folder):
+    """Seconds and bytes of loading, and microseconds a statement on each side, in each repetition."""
     rounds, fewer = ROUNDS.get(rows, 20_000), ROUNDS_FROM_SCRATCH.get(rows, 4)
     files, figures = Files(folder, form, rows), Figures()
     written(files.script, script_of_rounds(form, rows, rounds))
     for _ in range(repetitions):
         loading, statements = replayed(program, files, form, rounds)
-        figures.all_loading.append(loading.seconds)
-        figures.all_memory.append(loading.memory)
-        figures.all_kept.append(statements / (3 * rounds) * 1e6)
-        sides = [(TRIGGERS, ROUNDS_TRIGGERS, figures.all_triggers)]
-        sides += [(OTHER, ROUNDS_TRIGGERS, figures.all_other)] if form.other else []
-        sides += [(SCRATCH, fewer, figures.all_scratch)] if form.condition else []
-        for how, of_sqlite, times in sides:
-            times.append(in_sqlite(form, rows, of_sqlite, how) / (3 * of_sqlite) * 1e6)
+        figures["loading"].append(loading.seconds)
+        figures["memory"].append(loading.memory)
+        figures["kept"].append(statements / (3 * rounds) * 1e6)
+        sides = [(TRIGGERS, ROUNDS_TRIGGERS, "triggers")]
+        sides += [(OTHER, ROUNDS_TRIGGERS, "other")] if form.other else []
+        sides += [(SCRATCH, fewer, "scratch")] if form.condition else []
+        for how, of_sqlite, side in sides:
+            figures[side].append(in_sqlite(form, rows, of_sqlite, how) / (3 * of_sqlite) * 1e6)
     return figures
 
 
 def committed_memory(program, form, folder):
     """Bytes of a committed change of one row: of the whole, and of the same transactions rolled back."""
     files = Files(folder, form, COMMIT_ROWS)
-    loaded = replay(program, files.definitions, files.empty).memory
+    loaded = measured_replay(program, files.definitions, files.empty).memory
     found = []
     for end in ("COMMIT", "ROLLBACK"):
         pairs = (form.round(number, COMMIT_ROWS) for number in range(COMMITS // 2))
-        changes = (text(*one) for insert, update, _ in pairs for one in (insert, update))
-        written(files.script, (f"A: BEGIN;\nA: {one}\nA: {end};\n" for one in changes))
-        used = replay(program, files.definitions, files.script, files.output)
+        changes = (valued(*one) for insert, update, _ in pairs for one in (insert, update))
+        written(files.script, loads.transactions(changes, end=end))
+        used = measured_replay(program, files.definitions, files.script, files.output)
         check_commits(files.output, end)
         found.append((used.memory - loaded) / COMMITS)
     return found
@@ -571,13 +560,15 @@ def print_tables(found, sizes):
     heads += ["from scratch / skewguard", "triggers / skewguard"]
     rows = []
     for (name, size), one in found.items():
-        cells = [name, f"{size:,}", digits(one.kept), digits(one.scratch), digits(one.triggers)]
-        ratios = [one.scratch and one.scratch / one.kept, one.triggers / one.kept]
+        kept, scratch, triggers = map(one.middle, ("kept", "scratch", "triggers"))
+        cells = [name, f"{size:,}", digits(kept), digits(scratch), digits(triggers)]
+        ratios = [scratch and scratch / kept, triggers / kept]
         rows.append(cells + [digits(ratio) for ratio in ratios])
     table(heads, rows)
     ways = {form.name: form.other[0] for form in FORMS if form.other}
     rows = [
-        [name, f"{size:,}", ways[name], digits(one.other), digits(one.other / one.kept)]
+        [name, f"{size:,}", ways[name], digits(one.middle("other")),
+         digits(one.middle("other") / one.middle("kept"))]
         for (name, size), one in found.items()
         if name in ways
     ]
@@ -586,13 +577,13 @@ def print_tables(found, sizes):
     names = list(dict.fromkeys(name for name, _ in found))
     rows = []
     for name in names:
-        sides = [[getattr(found[name, size], side) for size in sizes] for side in ("kept", "scratch", "triggers")]
+        sides = [[found[name, size].middle(side) for size in sizes] for side in ("kept", "scratch", "triggers")]
         rows.append([name, *(power(exponent(list(zip(sizes, times)))) for times in sides)])
     heads = [f"exponent of growth, {sizes[0]:,} to {sizes[-1]:,} rows", "skewguard"]
     table(heads + ["SQLite from scratch", "SQLite with triggers"], rows)
     heads = ["loading", *(f"{size:,} rows" for size in sizes)]
-    rows = [[f"{name}, seconds", *(digits(found[name, size].loading) for size in sizes)] for name in names]
-    rows += [[f"{name}, peak MB", *(digits(found[name, size].memory / 1e6) for size in sizes)] for name in names]
+    rows = [[f"{name}, seconds", *(digits(found[name, size].middle("loading")) for size in sizes)] for name in names]
+    rows += [[f"{name}, peak MB", *(digits(found[name, size].middle("memory") / 1e6) for size in sizes)] for name in names]
     table(heads, rows)
 
 
@@ -614,7 +605,7 @@ def main():
     words.add_argument("--forms", help="some of the forms, by name, with commas between")
     words.add_argument("--without-memory", action="store_true", help="leaves out the memory of committed changes")
     chosen = words.parse_args()
-    sizes = [int(size) for size in chosen.rows.split(",")]
+    sizes = numbers_of(chosen.rows)
     forms = [form for form in FORMS if not chosen.forms or form.name in chosen.forms.split(",")]
     program = chosen.program or built()
     print(f"SQLite {sqlite3.sqlite_version}, {machine(chosen.repetitions)}")
@@ -628,7 +619,7 @@ def main():
             for rows in sizes:
                 repetitions = chosen.repetitions_large if rows >= LARGE else chosen.repetitions
                 found[form.name, rows] = one = measure(program, form, rows, repetitions, folder)
-                print(f"{form.name}, {rows} rows, {one}", flush=True)
+                print(f"{form.name}, {rows} rows, {told(one)}", flush=True)
         print(f"load at the end {os.getloadavg()[0]:.1f}")
         print_tables(found, sizes)
         if not chosen.without_memory:

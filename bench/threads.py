@@ -34,25 +34,10 @@ import sys
 import tempfile
 import time
 
-from replays import built, digits, machine, table, written
-from servers import Server
+from replays import built, digits, loads, machine, numbers_of, servers, table, written
 
-MEMBERS = 4  # accounts of an owner
+MEMBERS = loads.MEMBERS  # accounts of an owner
 CONTENDED_OWNERS = 10
-FIRST = 1_000_000  # what an account begins with
-
-ACCT = "CREATE TABLE ACCT (ID INTEGER PRIMARY KEY, OWNER INTEGER NOT NULL, BAL INTEGER NOT NULL);\n"
-FUNDS = "CREATE ASSERTION FUNDS CHECK (NOT EXISTS (SELECT OWNER FROM ACCT GROUP BY OWNER HAVING SUM(BAL) < 0));\n"
-
-
-def accounts(keys):
-    return ((key, key // MEMBERS, FIRST) for key in range(keys))
-
-
-def definitions(keys):
-    yield ACCT
-    yield FUNDS
-    yield from (f"INSERT INTO ACCT VALUES ({', '.join(map(str, row))});\n" for row in accounts(keys))
 
 
 def drawn_key(drawn, keys, sessions, session, contended):
@@ -68,9 +53,9 @@ def script(keys, sessions, transactions, contended, begin):
     """The events of all sessions. One after the other in the text, since each has a thread of its own."""
     for session in range(sessions):
         drawn = random.Random(session)
-        for _ in range(transactions // sessions):
-            key = drawn_key(drawn, keys, sessions, session, contended)
-            yield f"S{session}: {begin}; S{session}: UPDATE ACCT SET BAL = BAL + 1 WHERE ID = {key}; S{session}: COMMIT;\n"
+        keys_of_it = (drawn_key(drawn, keys, sessions, session, contended) for _ in range(transactions // sessions))
+        updates = (f"UPDATE ACCT SET BAL = BAL + 1 WHERE ID = {key}" for key in keys_of_it)
+        yield from loads.transactions(updates, begin, session=f"S{session}")
 
 
 def clocked(words):
@@ -82,7 +67,7 @@ def clocked(words):
 
 def skewguard(program, folder, keys, sessions, transactions, contended):
     """Commits a second, and the share of refused transactions."""
-    defs = written(f"{folder}/defs.sql", definitions(keys))
+    defs = written(f"{folder}/defs.sql", loads.ledger(keys))
     whole = written(f"{folder}/whole.sql", script(keys, sessions, transactions, contended, "BEGIN"))
     idle = written(f"{folder}/idle.sql", script(keys, sessions, transactions, contended, "COMMIT"))
     words = [os.path.abspath(program), "threads"]
@@ -109,11 +94,11 @@ TRIGGERS = [
 
 def sqlite(keys, transactions, contended):
     database = sqlite3.connect(":memory:", isolation_level=None)
-    database.execute(ACCT)
+    database.execute(loads.ACCT)
     for trigger in TRIGGERS:
         database.execute(trigger)
     database.execute("BEGIN")
-    database.executemany("INSERT INTO ACCT VALUES (?, ?, ?)", accounts(keys))
+    database.executemany("INSERT INTO ACCT VALUES (?, ?, ?)", loads.accounts(keys))
     database.execute("COMMIT")
     drawn = random.Random(0)
     chosen = [drawn_key(drawn, keys, 1, 0, contended) for _ in range(transactions)]
@@ -135,13 +120,14 @@ CREATE TRIGGER funds AFTER UPDATE ON acct FOR EACH ROW EXECUTE FUNCTION funds();
 """
 
 
-class Postgres(Server):
+class Postgres(servers.Server):
     """A server with the accounts and the rule."""
 
     def __init__(self, folder, keys):
         super().__init__(folder)
         self.sql("CREATE TABLE acct (id integer PRIMARY KEY, owner integer NOT NULL, bal bigint NOT NULL);"
-            f"INSERT INTO acct SELECT i, i / {MEMBERS}, {FIRST} FROM generate_series(0, {keys - 1}) AS i;{RULE}VACUUM ANALYZE acct;")
+            f"INSERT INTO acct SELECT i, i / {MEMBERS}, {loads.FIRST} FROM generate_series(0, {keys - 1}) AS i;"
+            f"{RULE}VACUUM ANALYZE acct;")
 
     def sql(self, text):
         for statement in text.split("VACUUM"):
@@ -163,18 +149,15 @@ class Postgres(Server):
         return float(re.search(r"tps = ([\d.]+)", told).group(1)), refused
 
 
-def middle(figures):
-    return statistics.median(figures)
-
-
 def row(load, sessions, ours, lite, theirs):
     """A line of the table: ours and theirs are pairs of commits a second and the share of refused ones."""
     def pair(figures):
         if not figures:
             return "-", "-"
-        return digits(middle([each for each, _ in figures]), 3), f"{100 * middle([share for _, share in figures]):.1f} %"
+        each, share = map(statistics.median, zip(*figures))
+        return digits(each, 3), f"{100 * share:.1f} %"
 
-    return [load, str(sessions), *pair(ours), digits(middle(lite), 3) if lite else "-", *pair(theirs)]
+    return [load, str(sessions), *pair(ours), digits(statistics.median(lite), 3) if lite else "-", *pair(theirs)]
 
 
 def main():
@@ -193,7 +176,7 @@ def main():
         server = None if given.without_postgres else Postgres(data, given.keys)
         lines = []
         for contended in (False, True):
-            for sessions in map(int, given.sessions.split(",")):
+            for sessions in numbers_of(given.sessions):
                 ours, lite, theirs = [], [], []
                 for _ in range(given.repetitions):
                     ours.append(skewguard(program, folder, given.keys, sessions, given.transactions, contended))

@@ -21,44 +21,18 @@ also wait for another one's row; where its COMMIT comes later for that, it is co
 After each COMMIT on PostgreSQL every rule is evaluated from scratch, and none may be false.
 """
 import argparse
+import contextlib
 import os
-import queue
 import random
-import shutil
-import subprocess
 import sys
-import tempfile
-import threading
 import time
 
 import psycopg2
 
-sys.path.append(os.path.join(os.path.dirname(os.path.abspath(__file__)), '..', 'bench'))
-
-import servers
-
-SETTINGS = {'max_pred_locks_per_transaction': '256', 'deadlock_timeout': '50ms', 'autovacuum': 'on',
-            'client_min_messages': 'error'}
-
-
-class Server(servers.Server):
-    """A PostgreSQL of one's own, whose folder goes with it."""
-
-    def __init__(self):
-        folder = tempfile.mkdtemp(prefix='skewguard_pg_')
-        super().__init__(folder, SETTINGS, ('--locale=C', '-E', 'UTF8'))
-
-    def connect(self, options=''):
-        connection = psycopg2.connect(host=self.folder, user='postgres', dbname='postgres', options=options)
-        connection.autocommit = True
-        return connection
-
-    def stop(self):
-        super().stop()
-        shutil.rmtree(self.folder)
-
-
-# ---- random definitions and scripts
+from harness import loads
+from harness.programs import replay, run_on
+from harness.reports import replies
+from harness.servers import Player, ServerOfCases
 
 COMPARES = ['=', '<>', '<', '<=', '>', '>=']
 NUMBERS = [0, 1, 2, 3, 4, -1, -2, 5, 7, 10, 10 ** 15, -10 ** 15, 999999999999999]
@@ -373,25 +347,22 @@ def written(value):
     return 'NULL' if value is None else str(value) if isinstance(value, int) else "'" + value.replace("'", "''") + "'"
 
 
-class Session(threading.Thread):
-    """Plays the events that it is given, one after the other, on a connection of its own. One that is alone waits for
-    no other, and plays them at once, without a thread."""
+class Session(Player):
+    """Notes what its events are answered. One that is alone waits for no other, and plays them at once, without a
+    thread."""
 
     def __init__(self, server, schema, alone):
-        super().__init__(daemon=True)
-        self.connection = server.connect(f'-c search_path={schema} -c enable_seqscan=off -c jit=off')
-        self.cursor, self.pid = self.connection.cursor(), self.connection.info.backend_pid
-        self.work, self.answers, self.is_open, self.lost, self.idle = queue.Queue(), [], False, False, True
-        self.alone = alone
+        super().__init__(server, schema)
+        self.pid = self.connection.info.backend_pid
+        self.answers, self.is_open, self.lost, self.alone = [], False, False, alone
         if not alone:
             self.start()
 
     def give(self, event):
         if self.alone:
-            self.answers.append(self.play(event))
-            return
-        self.idle = False
-        self.work.put(event)
+            self.play(event)
+        else:
+            super().give(event)
 
     def end(self, watch):
         """Ends the session, also where it waits for another one."""
@@ -402,17 +373,14 @@ class Session(threading.Thread):
         self.connection.close()
 
     def run(self):
-        while True:
-            event = self.work.get()
-            if event is None:
-                return
-            try:
-                self.answers.append(self.play(event))
-            except psycopg2.Error:
-                return                        # (the case is over, and its sessions were ended)
-            self.idle = self.work.empty()
+        # (where the case is over, its sessions were ended)
+        with contextlib.suppress(psycopg2.Error):
+            super().run()
 
     def play(self, event):
+        self.answers.append(self.played(event))
+
+    def played(self, event):
         try:
             return self.answer(event)
         except psycopg2.Error as error:
@@ -458,7 +426,7 @@ class Differs(Exception):
     pass
 
 
-class Player:
+class Cases:
     def __init__(self, program, server):
         self.program, self.server = program, server
         self.watch = server.connect('-c default_transaction_isolation=read\\ committed')
@@ -469,43 +437,29 @@ class Player:
     def count(self, what):
         self.counts[what] = self.counts.get(what, 0) + 1
 
-    def runs(self, *words, texts):
-        with tempfile.TemporaryDirectory() as folder:
-            files = []
-            for name, text in texts.items():
-                files.append(os.path.join(folder, name))
-                with open(files[-1], 'w') as file:
-                    file.write(text)
-            return subprocess.run([self.program, *words, *files], capture_output=True, text=True, timeout=60)
-
-    def replayed(self, defs, script):
+    def replayed(self, defs, events):
         """The answers of the program to a script's events, or None where the definitions are refused."""
-        text = ''.join(f'{session}: {mine};\n' for session, mine, _ in script)
-        ran = self.runs('replay', texts={'defs': defs, 'script': text})
-        if ran.returncode != 0:
+        ran = replay(self.program, defs, ''.join(loads.script(events)))
+        if ran.status != 0:
             return None
-        answers, lines = [], ran.stdout.splitlines()
-        at = 0
-        for _ in script:
-            end = at + 1
-            while end < len(lines) and lines[end].startswith('  '):
-                end += 1
-            answers.append(answer_of_program(lines[at:end]))
-            at = end
-        return answers
+        answered = replies(ran.output)
+        return [answer_of_program(answered[at]) for at in range(len(events))]
+
+    def printed(self, defs):
+        return run_on([self.program, 'postgresql'], defs)
 
     def load(self, defs):
-        printed_ = self.runs('postgresql', texts={'defs': defs})
-        if printed_.returncode != 0:
-            raise Differs(f'postgresql: status {printed_.returncode}: {printed_.stderr}')
+        printed_ = self.printed(defs)
+        if printed_.status != 0:
+            raise Differs(f'postgresql: status {printed_.status}: {printed_.error}')
         self.schemas += 1
         schema = f'case_{self.schemas}'
         try:
             self.cursor.execute(f'CREATE SCHEMA {schema}')
             self.cursor.execute(f'SET search_path = {schema}')
-            self.cursor.execute(printed_.stdout)
+            self.cursor.execute(printed_.output)
         except psycopg2.Error as error:
-            raise Differs(f'the SQL is not loaded: {error}\n{printed_.stdout}')
+            raise Differs(f'the SQL is not loaded: {error}\n{printed_.output}')
         return schema
 
     def case(self, maker):
@@ -703,7 +657,7 @@ def loaded(server, player, sql, name, n):
 
 def costs(server, player, statements=200):
     """For each rule the median of an UPDATE of one row, a transaction each, the kinds in turns; and an INSERT of all."""
-    printed_ = {mode: player.runs('postgresql', texts={'defs': COST_DEFS % {'mode': mode}}).stdout for mode in ('', ' INITIALLY DEFERRED')}
+    printed_ = {mode: player.printed(COST_DEFS % {'mode': mode}).output for mode in ('', ' INITIALLY DEFERRED')}
     kinds = [('no rule', BARE), ('by hand', BY_HAND), ('printed', printed_['']), ('printed, deferred', printed_[' INITIALLY DEFERRED'])]
     print('| rule | rows | statement | ' + ' | '.join(kind for kind, _ in kinds) + ' |\n|---|---|---|' + '---|' * len(kinds))
     for n in (10 ** 4, 10 ** 5):
@@ -725,9 +679,9 @@ def main():
     arguments.add_argument('--seed', type=int, default=1)
     arguments.add_argument('--costs', action='store_true', help='what a statement costs, beside hand-written triggers')
     options = arguments.parse_args()
-    server = Server()
+    server = ServerOfCases()
     try:
-        player = Player(os.path.abspath(options.program), server)
+        player = Cases(os.path.abspath(options.program), server)
         if options.costs:
             costs(server, player)
             return 0

@@ -20,9 +20,11 @@ import subprocess
 import sys
 import tempfile
 
-REPOSITORY = pathlib.Path(__file__).resolve().parent.parent
-CRATE = REPOSITORY / "crates" / "skewguard_c"
-HEADER = REPOSITORY / "bindings" / "c" / "skewguard.h"
+from harness.crates import path_of_rt
+from harness.programs import TOP
+
+CRATE = TOP / "crates" / "skewguard_c"
+HEADER = TOP / "bindings" / "c" / "skewguard.h"
 SONAME = "libskewguard.so.0"
 FILE = "libskewguard.so.0.1.0"
 EXPORTS = "skewguard_library_open", "skewguard_library_call", "skewguard_library_close"
@@ -44,7 +46,7 @@ def archive_behind_gate():
     import rtlib
 
     rtlib.Crate.cuts_libraries = True
-    crate = rtlib.Crate(str(CRATE), str(REPOSITORY), {})
+    crate = rtlib.Crate(str(CRATE), str(TOP), {})
     if any(library.is_built() for library in crate.below()):
         return proved_archive()
     if crate.build_static([]) or not crate.is_proved:
@@ -54,10 +56,7 @@ def archive_behind_gate():
 
 def kit():
     """The folder of the toolchain, which has `rt` in its bin/."""
-    tool = shutil.which("rt")
-    if not tool:
-        sys.exit("c_library.py: there is no `rt` to find the kit by")
-    return pathlib.Path(tool).resolve().parent.parent
+    return path_of_rt("c_library.py: there is no `rt` to find the kit by").parent.parent
 
 
 def memory_archive():

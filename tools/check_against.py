@@ -12,9 +12,9 @@ that differs is printed. The stage is the reference's language: base, or any-lin
 import argparse
 import json
 import random
-import subprocess
 import sys
-import tempfile
+
+from harness.programs import run_on
 
 TRUTHS = {True: "TRUE", False: "FALSE", None: "UNKNOWN"}
 FORMS = {"R": "rows", "G": "groups", "S": "single"}
@@ -132,14 +132,6 @@ def load(folder):
     return fuzz, (engine, parser, meaning, refusals)
 
 
-def printed(program, defs):
-    with tempfile.NamedTemporaryFile() as it:
-        it.write(defs)
-        it.flush()
-        return subprocess.run([program, "check", "--json", it.name], stdout=subprocess.PIPE, check=False,
-                              timeout=60).stdout.decode()
-
-
 def main():
     words = argparse.ArgumentParser(description=__doc__, formatter_class=argparse.RawDescriptionHelpFormatter)
     words.add_argument("reference")
@@ -151,7 +143,8 @@ def main():
     fuzz, reference = load(words.reference)
     for seed in range(words.seed, words.seed + words.cases):
         defs = made(fuzz, seed, words.stage)
-        want, found = wanted(reference, defs, words.stage), shown(printed(words.program, defs))
+        answer = run_on([words.program, "check", "--json"], defs, stderr=None)
+        want, found = wanted(reference, defs, words.stage), shown(answer.output)
         if want != found:
             print(f"seed {seed}:\n{defs.decode('latin1')}\nwanted {want}\nshown  {found}")
             return 1

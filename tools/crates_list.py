@@ -10,26 +10,15 @@ its src/lib.rt or src/main.rt begins, and its definitions are the files of its s
 name, and a name without a crate, end the run.
 """
 import functools
-import pathlib
 import re
 import sys
 
-TOP = pathlib.Path(__file__).resolve().parent.parent
+from harness.crates import edges, groups
+from harness.programs import TOP
+
 PAGE = TOP / "docs/DESIGN.md"
 BEGIN = "<!-- crates: made by tools/crates_list.py -->\n"
 END = "<!-- crates: end -->\n"
-
-
-def groups():
-    """Of each group of crates.txt its words, and its crates with the names that they stand on."""
-    found = []
-    for line in (TOP / "crates.txt").read_text(encoding="utf-8").splitlines():
-        if line.startswith("#"):
-            found.append((line.lstrip("# "), {}))
-        elif line.strip():
-            head, names = line.split(":")
-            found[-1][1][head.split()[0]] = names.split()
-    return found
 
 
 def root_file(crate):
@@ -54,27 +43,27 @@ def definitions(crate):
     return ", ".join(f"`{name}`" for name in names if name != "Lib")
 
 
-def nearest(crate, edges):
+def nearest(crate, stands_on):
     """The crates that one stands on, without those that another of them stands on."""
     @functools.cache
     def below(name):
-        return {name}.union(*(below(other) for other in edges.get(name, ())))
+        return {name}.union(*(below(other) for other in stands_on.get(name, ())))
 
-    further = set().union(*(below(name) - {name} for name in edges[crate]))
-    return [name for name in edges[crate] if name in edges and name not in further]
+    further = set().union(*(below(name) - {name} for name in stands_on[crate]))
+    return [name for name in stands_on[crate] if name in stands_on and name not in further]
 
 
 def made_list():
     """The list as the page has it: one table, with a row for each group above those of its crates."""
-    edges = {crate: names for _, crates in groups() for crate, names in crates.items()}
+    stands_on = edges()
     there = {folder.name for folder in (TOP / "crates").iterdir() if (folder / "src").is_dir()}
-    if there != set(edges):
-        sys.exit(f"crates.txt and the folder crates differ by {', '.join(sorted(there ^ set(edges)))}")
+    if there != set(stands_on):
+        sys.exit(f"crates.txt and the folder crates differ by {', '.join(sorted(there ^ set(stands_on)))}")
     lines = ["| crate | what it is for | stands on | its definitions |", "|---|---|---|---|"]
     for words, crates in groups():
         lines += [f"| | **{words[0].upper()}{words[1:]}** | | |"]
         for crate in crates:
-            link, below = f"[`{crate}`](../crates/{crate})", ", ".join(nearest(crate, edges))
+            link, below = f"[`{crate}`](../crates/{crate})", ", ".join(nearest(crate, stands_on))
             lines += [f"| {link} | {purpose(crate)} | {below} | {definitions(crate)} |"]
     return "\n".join(lines) + "\n"
 

@@ -16,12 +16,12 @@ can't be read.
 import argparse
 import importlib.machinery
 import importlib.util
-import pathlib
 import re
-import shutil
 import sys
 
-TOP = pathlib.Path(__file__).resolve().parent.parent
+from harness.crates import path_of_rt
+from harness.programs import TOP
+
 FOLDERS = {"must-fail": "in the gate", "edits": "by hand"}
 HEAD = re.compile(r"^[ \t]*(?:pub(?:\([\w ]+\))? )?(?:unsafe )?(?:extern \"C\" )?fn (\w+)", re.MULTILINE)
 CLAUSE = re.compile(r"^[ \t]*(?:requires|ensures)\*?[ \w]*\{", re.MULTILINE)
@@ -34,10 +34,8 @@ EQUATION = re.compile(rf"{HOLDS}(?:Reads .*|Gives .*|{WHOLE} ≡ {OTHER}|[^→×
 
 def kit():
     """What `rt` is made of, so that an edit is tried just as the gate tries those of must-fail/."""
-    tool = shutil.which("rt")
-    if not tool:
-        sys.exit("edits.py: there is no `rt` to try edits with")
-    loader = importlib.machinery.SourceFileLoader("rt", str(pathlib.Path(tool).resolve()))
+    tool = path_of_rt("edits.py: there is no `rt` to try edits with")
+    loader = importlib.machinery.SourceFileLoader("rt", str(tool))
     rt = importlib.util.module_from_spec(importlib.util.spec_from_loader("rt", loader))
     sys.dont_write_bytecode = True
     loader.exec_module(rt)

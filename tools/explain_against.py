@@ -10,12 +10,12 @@ an event and of a rule, and the WHERE of a set function. With --files these are 
 """
 import argparse
 import itertools
-import os
 import re
-import subprocess
 import sys
-import tempfile
 import xml.etree.ElementTree as ET
+
+from harness.programs import run
+from harness.texts import placed
 
 parser = argparse.ArgumentParser()
 parser.add_argument('reference')
@@ -29,7 +29,7 @@ options = parser.parse_args()
 sys.path.insert(0, options.reference)
 import fuzz  # noqa: E402
 from reference import engine, meaning as M, parser as P  # noqa: E402
-from reference.refusals import ALL, Refused, value_text  # noqa: E402
+from reference.refusals import Refused, value_text  # noqa: E402
 from reference.report import reply_lines  # noqa: E402
 
 MOST_LINES, MOST_LANES, MOST_BOXES, MOST_ARROWS = 10, 12, 60, 40
@@ -347,10 +347,12 @@ def told(text):
     return out[:-1] if out and not out[-1] else out
 
 
-def ran(words, limit, files):
-    more = [] if limit == 1_000_000 else ['--max-commits', str(limit)]
-    it = subprocess.run([options.program, words[0], *more, *files, *words[1:]], capture_output=True, timeout=60)
-    return it.stdout.decode('latin1'), it.stderr.decode('latin1'), it.returncode
+def printed(words, limit, files):
+    """What the program prints, which has to end well and say nothing else."""
+    more = [] if limit == 1_000_000 else ['--max-commits', limit]
+    status, output, error = run([options.program, words[0], *more, *files, *words[1:]])
+    assert (error, status) == ('', 0), (words, error, status)
+    return output
 
 
 def titles(svg):
@@ -397,23 +399,15 @@ def try_case(n, defs, script, limit, counts):
         story.definitions.refuse_false(story.definitions.loaded)
     except Refused:
         return True
-    with tempfile.TemporaryDirectory() as folder:
-        files = [os.path.join(folder, 'defs'), os.path.join(folder, 'script')]
-        for path, text in zip(files, (defs, script)):
-            with open(path, 'wb') as it:
-                it.write(text)
-        out, err, status = ran(['picture'], limit, files)
-        assert (err, status) == ('', 0), (err, status)
-        boxes, arrows = titles(out)
+    with placed(defs, script) as files:
+        boxes, arrows = titles(printed(['picture'], limit, files))
         want = story.drawn()
         counts['boxes'] += len(boxes)
         counts['arrows'] += len(arrows)
         if not compare(f'case {n}, picture', want[0] + want[1], boxes + arrows, defs, script):
             return False
         for i in range(0 if options.pictures_only else len(story.items)):
-            out, err, status = ran(['explain', str(i + 1)], limit, files)
-            assert (err, status) == ('', 0), (i, err, status)
-            want, got = story.explained(i), told(out)
+            want, got = story.explained(i), told(printed(['explain', i + 1], limit, files))
             counts['events'] += 1
             answer = story.events[i]['answer']
             if isinstance(answer, Refused):

@@ -8,13 +8,17 @@
 Else the program is built once, by `rt try`, which proves nothing. A text is of definitions; behind a line of three dashes
 stands a script.
 """
+import difflib
 import os
+import pathlib
 import re
 import subprocess
 import sys
 import tempfile
 
-TOP = os.path.dirname(os.path.dirname(os.path.abspath(__file__)))
+from harness.programs import TOP, run
+from harness.texts import placed, read, write
+
 SHOWN = f"{TOP}/docs/faulty_texts.txt"
 
 TABLES = """CREATE TABLE SHIFTS (ID INTEGER PRIMARY KEY, HOURS INTEGER);
@@ -88,41 +92,29 @@ TEXTS = {
 }
 
 
-def run(cases):
+def run_unproved(cases):
     """What the program prints on each case, and the status, by its name: {name: (arguments, files)}."""
-    with tempfile.TemporaryDirectory() as folder:
+    with tempfile.TemporaryDirectory() as folder, tempfile.TemporaryDirectory() as texts:
         data = []
         for name, (arguments, files) in cases.items():
-            with open(f"{folder}/{name}", "w", encoding="utf-8"):
-                pass
-            with open(f"{folder}/{name}.args", "w", encoding="utf-8") as it:
-                it.write("\n".join(arguments) + "\n")
+            write(f"{folder}/{name}", "")
+            write(f"{folder}/{name}.args", "\n".join(arguments) + "\n")
             for file, text in files.items():
-                path = f"{folder}.{len(data)}"
-                with open(path, "w", encoding="utf-8") as it:
-                    it.write(text)
-                data += ["--data", f"{file}={path}"]
-        try:
-            done = subprocess.run(["rt", "try", "--cases", folder, *data], cwd=f"{TOP}/crates/skewguard",
-                                  stdout=subprocess.PIPE, stderr=subprocess.PIPE, text=True)
-        finally:
-            for path in data[1::2]:
-                os.remove(path.partition("=")[2])
+                data += ["--data", f"{file}={write(f'{texts}/{len(data)}', text)}"]
+        words = ["rt", "try", "--cases", folder, *data]
+        done = subprocess.run(words, cwd=TOP / "crates/skewguard", capture_output=True, text=True)
     parts = re.split(r"^== (\S+)\n", done.stdout, flags=re.M)
-    return dict(zip(parts[1::2], parts[2::2])), done
+    return dict(zip(parts[1::2], parts[2::2])), done.stderr[-3000:]
 
 
 def run_program(program, cases):
     """The same, with a program that is built."""
     shown = {}
     for name, (arguments, files) in cases.items():
-        with tempfile.TemporaryDirectory() as folder:
-            for file, text in files.items():
-                with open(f"{folder}/{file}", "w", encoding="utf-8") as it:
-                    it.write(text)
-            done = subprocess.run([program, *arguments], cwd=folder, stdout=subprocess.PIPE, text=True, check=False)
-            shown[name] = done.stdout
-    return shown
+        with placed(*files.values(), names=list(files)) as paths:
+            folder = pathlib.Path(paths[0]).parent
+            shown[name] = run([program, *arguments], cwd=folder, stderr=None).output
+    return shown, ""
 
 
 def case_of(name, text):
@@ -138,25 +130,18 @@ def case_of(name, text):
 def main(words):
     cases = {name: case_of(name, text) for name, text in TEXTS.items()}
     programs = [word for word in words if word != "--write"]
-    if programs:
-        shown, said = run_program(os.path.abspath(programs[0]), cases), ""
-    else:
-        shown, done = run(cases)
-        said = done.stderr[-3000:]
+    shown, said = run_program(os.path.abspath(programs[0]), cases) if programs else run_unproved(cases)
     missing = [name for name in TEXTS if not shown.get(name)]
     if missing:
         sys.exit(f"{said}\nnothing was shown of {', '.join(missing)}")
     table = "".join(f"== {name}\n{shown[name].strip()}\n\n" for name in TEXTS)
     if "--write" in words:
-        with open(SHOWN, "w", encoding="utf-8") as it:
-            it.write(table)
+        write(SHOWN, table)
         return 0
-    with open(SHOWN, encoding="utf-8") as it:
-        wanted = it.read()
+    wanted = read(SHOWN)
     if table == wanted:
         print(f"{len(TEXTS)} faulty texts are shown as in docs/faulty_texts.txt")
         return 0
-    import difflib
     sys.stderr.writelines(difflib.unified_diff(wanted.splitlines(True), table.splitlines(True), "wanted", "shown"))
     return 1
 

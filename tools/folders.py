@@ -25,16 +25,17 @@ import pty
 import re
 import subprocess
 import sys
-import tempfile
 import termios
 import typing
 
-TOP = pathlib.Path(__file__).resolve().parent.parent
+from harness.loads import script
+from harness.programs import TOP, Answer, from_terminal, run
+from harness.texts import NAMES, placed, read
+
 PICTURES = TOP / "docs" / "pictures"
 ROWS = TOP / "bindings" / "python" / "tests"
-TEXTS = ["defs.sql", "script.sql"]
-GAP = re.compile(rb"(?:\A|\n)\.\.\.\n")
-BEHIND_REPLIES = re.compile(rb"^(?:\w+: ROLLBACK AT END$|COMMITS )", re.MULTILINE)
+GAP = re.compile(r"(?:\A|\n)\.\.\.\n")
+BEHIND_REPLIES = re.compile(r"^(?:\w+: ROLLBACK AT END$|COMMITS )", re.MULTILINE)
 # The bits of a terminal by which it shows what is typed and turns each end of a line into two bytes.
 INPUT_MODES, OUTPUT_MODES = 3, 1
 
@@ -43,23 +44,7 @@ class Folder(typing.NamedTuple):
     name: str
     path: pathlib.Path
     words: typing.List[str]
-    output: bytes
-
-
-class Answer(typing.NamedTuple):
-    status: int
-    output: bytes
-    error: bytes
-
-
-def read(folder, name, otherwise=b""):
-    file = folder / name
-    return file.read_bytes() if file.is_file() else otherwise
-
-
-def run(program, words, folder, given):
-    done = subprocess.run([program, *words], cwd=folder, input=given, capture_output=True, check=False, timeout=120)
-    return Answer(done.returncode, done.stdout, done.stderr)
+    output: str
 
 
 def talk(program, words, folder, typed):
@@ -71,69 +56,61 @@ def talk(program, words, folder, typed):
     termios.tcsetattr(end, termios.TCSANOW, modes)
     with subprocess.Popen([program, *words], cwd=folder, stdin=end, stdout=end, stderr=subprocess.PIPE) as process:
         os.close(end)
-        os.write(terminal, typed)
-        shown = b"".join(iter(lambda: read_terminal(terminal), b""))
+        os.write(terminal, typed.encode("latin-1"))
+        shown = b"".join(iter(lambda: from_terminal(terminal), b""))
         error = process.stderr.read()
     os.close(terminal)
-    return Answer(process.returncode, shown, error)
-
-
-def read_terminal(terminal):
-    """What comes next; nothing where the program has gone."""
-    try:
-        return os.read(terminal, 65536)
-    except OSError:
-        return b""
+    return Answer(process.returncode, shown.decode("latin-1"), error.decode("latin-1"))
 
 
 def run_each(program, words, folder, lines):
     """What comes of the words where each of the lines stands in the texts, one behind the other."""
+    texts = [read(folder / name) for name in NAMES]
     answers = []
-    with tempfile.TemporaryDirectory() as place:
-        for line in lines:
-            for name in TEXTS:
-                pathlib.Path(place, name).write_bytes(read(folder, name).replace(b"@", line))
-            answers.append(run(program, words, place, b""))
+    for line in lines:
+        with placed(*(text.replace("@", line) for text in texts)) as files:
+            answers.append(run([program, *words], cwd=pathlib.Path(files[0]).parent))
     statuses = {answer.status for answer in answers}
     status = statuses.pop() if len(statuses) == 1 else -1
-    return Answer(status, b"".join(it.output for it in answers), b"".join(it.error for it in answers))
+    return Answer(status, "".join(it.output for it in answers), "".join(it.error for it in answers))
 
 
 def answer_of(program, folder):
-    if (folder.path / "each.txt").is_file():
-        return run_each(program, folder.words, folder.path, read(folder.path, "each.txt").splitlines())
-    if (folder.path / "typed.txt").is_file():
-        return talk(program, folder.words, folder.path, read(folder.path, "typed.txt"))
-    return run(program, folder.words, folder.path, read(folder.path, "stdin.txt"))
+    path, words = folder.path, folder.words
+    if (path / "each.txt").is_file():
+        return run_each(program, words, path, read(path / "each.txt").splitlines())
+    if (path / "typed.txt").is_file():
+        return talk(program, words, path, read(path / "typed.txt"))
+    return run([program, *words], read(path / "stdin.txt"), cwd=path)
 
 
 def is_as_wanted(got, wanted):
     """Whether the bytes are those, with any others in each gap."""
     pieces = GAP.split(wanted)
-    pattern = b".*".join(map(re.escape, pieces))
+    pattern = ".*".join(map(re.escape, pieces))
     return re.fullmatch(pattern, got, re.DOTALL) is not None
 
 
 def sessions_of(report):
     """The sessions of a report's replies."""
-    replies = re.split(rb"^COMMITS ", report, maxsplit=1, flags=re.MULTILINE)[0]
-    return {line.split(b":")[0] for line in replies.splitlines() if not line.startswith(b"  ")}
+    replies = re.split(r"^COMMITS ", report, maxsplit=1, flags=re.MULTILINE)[0]
+    return {line.split(":")[0] for line in replies.splitlines() if not line.startswith("  ")}
 
 
 def other_ways(program, words, place, report):
     """Each other way to run a script that is replayed whole, with what has to come of it and what does."""
     options, (defs, script) = words[1:-2], words[-2:]
-    given, shell = read(place, script), ["shell", *options, defs]
+    given, shell = read(place / script), [program, "shell", *options, defs]
     replies = report[:BEHIND_REPLIES.search(report).start()]
-    yield "shell", Answer(0, replies, b""), run(program, shell, place, given)
-    yield "shell --report", Answer(0, report, b""), run(program, [*shell, "--report"], place, given)
+    yield "shell", Answer(0, replies, ""), run(shell, given, cwd=place)
+    yield "shell --report", Answer(0, report, ""), run([*shell, "--report"], given, cwd=place)
     if len(sessions_of(report)) <= 1:
-        yield "threads", Answer(0, report, b""), run(program, ["threads", *words[1:]], place, b"")
+        yield "threads", Answer(0, report, ""), run([program, "threads", *words[1:]], cwd=place)
 
 
 def runs_of_folder(program, folder):
     """Each run of a folder: its words, what is wanted, and what comes of it."""
-    wanted = Answer(int(read(folder.path, "status", b"0")), folder.output, read(folder.path, "error.txt"))
+    wanted = Answer(int(read(folder.path / "status", "0")), folder.output, read(folder.path / "error.txt"))
     yield folder.words[0], wanted, answer_of(program, folder)
     is_one_run = not (folder.path / "each.txt").is_file()
     if folder.words[0] == "replay" and is_one_run and BEHIND_REPLIES.search(folder.output):
@@ -143,25 +120,23 @@ def runs_of_folder(program, folder):
 def folders():
     for top in (TOP / "tests", TOP / "examples"):
         for path in sorted(it for it in top.iterdir() if it.is_dir()):
-            words = read(path, "args").decode().splitlines() or ["replay", *TEXTS]
-            yield Folder(f"{top.name}/{path.name}", path, words, read(path, "expected.txt"))
+            words = read(path / "args").splitlines() or ["replay", *NAMES]
+            yield Folder(f"{top.name}/{path.name}", path, words, read(path / "expected.txt"))
     for path in sorted(it for it in PICTURES.iterdir() if it.is_dir()):
-        output = (PICTURES / f"{path.name}.svg").read_bytes()
-        yield Folder(f"pictures/{path.name}", path, ["picture", *TEXTS], output)
+        output = read(PICTURES / f"{path.name}.svg")
+        yield Folder(f"pictures/{path.name}", path, ["picture", *NAMES], output)
 
 
 def runs_of_row(program, row):
     """Each run of a worked row, of which the closing part may be left open."""
-    wanted = "".join(f"{line}\n" for line in [*row.lines, *(row.closing or ["..."])]).encode()
-    with tempfile.TemporaryDirectory() as place:
-        script = "".join(f"{event.session}: {event.text};\n" for event in row.events)
-        pathlib.Path(place, "defs.sql").write_text(row.definitions, encoding="ascii")
-        pathlib.Path(place, "script.sql").write_text(script, encoding="ascii")
-        words = ["replay", "--max-commits", str(row.max_commits), *TEXTS]
-        replayed = run(program, words, place, b"")
-        yield "replay", Answer(0, wanted, b""), replayed
+    wanted = "".join(f"{line}\n" for line in [*row.lines, *(row.closing or ["..."])])
+    words = ["replay", "--max-commits", str(row.max_commits), *NAMES]
+    with placed(row.definitions, "".join(script((it.session, it.text) for it in row.events))) as files:
+        place = pathlib.Path(files[0]).parent
+        replayed = run([program, *words], cwd=place)
+        yield "replay", Answer(0, wanted, ""), replayed
         if is_as_wanted(replayed.output, wanted):
-            yield from other_ways(program, words, pathlib.Path(place), replayed.output)
+            yield from other_ways(program, words, place, replayed.output)
 
 
 def all_runs(program, names):
@@ -179,7 +154,7 @@ def all_runs(program, names):
 def show(name, way, wanted, got):
     print(f"DIFFERS  {name}, {way}: status {got.status}, and {wanted.status} is wanted")
     for stream, want, have in (("output", wanted.output, got.output), ("error", wanted.error, got.error)):
-        lines = [text.decode(errors="replace").splitlines() for text in (want, have)]
+        lines = [text.splitlines() for text in (want, have)]
         print("\n".join(difflib.unified_diff(*lines, f"wanted {stream}", stream, lineterm="")))
 
 
@@ -188,7 +163,7 @@ def main(program, names):
     for name, way, wanted, got in all_runs(program, names):
         count += 1
         found.add(name)
-        if wanted._replace(output=b"") != got._replace(output=b"") or not is_as_wanted(got.output, wanted.output):
+        if wanted._replace(output="") != got._replace(output="") or not is_as_wanted(got.output, wanted.output):
             bad += 1
             show(name, way, wanted, got)
     print(f"{count} runs of {len(found)} folders and rows, {bad} differ")

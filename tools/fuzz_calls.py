@@ -18,10 +18,10 @@ import ctypes
 import pathlib
 import random
 import struct
-import subprocess
 import sys
-import tempfile
 import typing
+
+from harness.programs import replay
 
 (AGAIN, LINE, OPEN_SESSION, CLOSE_SESSION, PREPARE, FORGET, RUN, EXECUTE, BEGIN, BEGIN_READ_ONLY, COMMIT, ROLLBACK,
  REPORT, CHECKPOINT) = range(14)
@@ -31,7 +31,6 @@ SESSION, STATEMENT, BEGUN, COMMITTED, ROLLED_BACK, INSERTED, UPDATED, DELETED, R
 MODES_SET, VERDICT, TEXT, REFUSAL = 12, 13, 14, 15
 ENDING = "10 40002", "12 40001", "13 40001", "17 -"
 CALLS_IN_A_RUN = 500
-
 
 
 class Schema(typing.NamedTuple):
@@ -487,13 +486,8 @@ class Run:
 
     def replay(self, program, schema, script):
         """The status, and what was printed."""
-        with tempfile.TemporaryDirectory() as folder:
-            definitions, events = pathlib.Path(folder, "defs.sql"), pathlib.Path(folder, "script.sql")
-            definitions.write_text(schema.text())
-            events.write_text("\n".join(script) + "\n")
-            words = [program, "replay", *self.limit_words(), str(definitions), str(events)]
-            done = subprocess.run(words, capture_output=True, text=True, check=False)
-            return done.returncode, done.stdout or done.stderr.splitlines(keepends=True)[0]
+        done = replay(program, schema.text(), "\n".join(script) + "\n", *self.limit_words())
+        return done.status, done.output or done.error.splitlines(keepends=True)[0]
 
     def compare(self, program):
         """Replays each epoch."""

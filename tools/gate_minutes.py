@@ -23,6 +23,9 @@ import subprocess
 import sys
 import time
 
+from harness.crates import edges
+from harness.programs import TOP
+
 TICKS = os.sysconf("SC_CLK_TCK")
 KINDS = ("proof", "tests", "edits")
 
@@ -82,40 +85,29 @@ def watch(is_running, top):
     return table
 
 
-def edits_of(top, crate):
+def edits_of(crate):
     """How many edits of a crate the gate tries, and how many tools/edits.py tries."""
-    folders = [f"{top}/crates/{crate}/{name}" for name in ("must-fail", "edits")]
+    folders = [f"{TOP}/crates/{crate}/{name}" for name in ("must-fail", "edits")]
     return [len(glob.glob(f"{folder}/*.edit")) for folder in folders]
 
 
-def show(table, top):
+def show(table):
     crates = sorted({crate for crate, _ in table}, key=lambda it: -sum(table[it, kind] for kind in KINDS))
     print("| crate | proof | tests | edits | together | edits in the gate, by hand |\n|---|---|---|---|---|---|")
     for crate in crates:
         minutes = [table[crate, kind] / 60 for kind in KINDS]
         cells = " | ".join(f"{it:.1f}" for it in [*minutes, sum(minutes)])
-        print(f"| `{crate}` | {cells} | {', '.join(map(str, edits_of(top, crate)))} |")
+        print(f"| `{crate}` | {cells} | {', '.join(map(str, edits_of(crate)))} |")
     sums = [sum(table[it, kind] for it in crates) / 60 for kind in KINDS]
     cells = " | ".join(f"{it:.1f}" for it in [*sums, sum(sums)])
-    counts = map(sum, zip(*(edits_of(top, it) for it in crates)))
+    counts = map(sum, zip(*(edits_of(it) for it in crates)))
     print(f"| all of these | {cells} | {', '.join(map(str, counts))} |")
 
 
-def edges(top):
-    """What each crate stands on, by crates.txt."""
-    found = {}
-    with open(f"{top}/crates.txt") as it:
-        for line in it:
-            name, colon, below = line.partition(":")
-            if colon and not line.startswith("#"):
-                found[name.split()[0]] = below.split()
-    return found
-
-
-def longest_chain(table, top):
+def longest_chain(table):
     """The crates of which each waits for the proof of the one before it, and what they take together. Beside the proof
     of the last one stand its tests, and behind both its edits."""
-    below, chains = edges(top), {}
+    below, chains = edges(), {}
 
     def before(crate):
         return max([chain(it) for it in below[crate] if it in below], default=(0.0, []))
@@ -151,15 +143,14 @@ def main():
     parser.add_argument("--add", metavar="FILE", help="what is known of earlier runs, to be added to")
     parser.add_argument("names", nargs="*", metavar="NAME", help="a crate; the gate then goes over it and those below")
     words = parser.parse_args()
-    top = os.path.dirname(os.path.dirname(os.path.realpath(__file__)))
     begin = time.time()
     with open(words.log, "w") as log:
-        how = {"cwd": top, "stdout": log, "stderr": subprocess.STDOUT, "stdin": subprocess.DEVNULL}
+        how = {"cwd": TOP, "stdout": log, "stderr": subprocess.STDOUT, "stdin": subprocess.DEVNULL}
         gate = subprocess.Popen(["rt", "ci", *words.names], **how)
         table = watch(lambda: gate.poll() is None, str(gate.pid))
     table = add(words.add, table) if words.add else table
-    show(table, top)
-    minutes, chain = longest_chain(table, top)
+    show(table)
+    minutes, chain = longest_chain(table)
     print(f"\nThe longest chain: {', '.join(chain)}; {minutes / 60:.0f} processor minutes.")
     spent = resource.getrusage(resource.RUSAGE_CHILDREN)
     print(f"\nThis run: {(time.time() - begin) / 60:.0f} minutes on {os.cpu_count()} processors, "

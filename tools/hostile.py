@@ -8,10 +8,11 @@ report. What is expected of a text stands beside it here, as a status and the li
 program.
 """
 import os
-import resource
-import subprocess
 import sys
 import tempfile
+
+from harness.programs import run
+from harness.texts import placed, write
 
 MEGABYTES = 10
 LONG = MEGABYTES * 1000 * 1000
@@ -73,67 +74,53 @@ def files(folder):
     missing, directory = f"{folder}/missing", f"{folder}/folder"
     os.mkdir(directory)
     empty = f"{folder}/empty"
-    open(empty, "wb").close()
+    write(empty, "")
     yield "no such DEFS", missing, empty, 3, "DEFS: UNREADABLE\n"
     yield "no such SCRIPT", empty, missing, 3, "SCRIPT: UNREADABLE\n"
     yield "a folder for DEFS", directory, empty, 3, "DEFS: UNREADABLE\n"
     yield "a folder for SCRIPT", empty, directory, 3, "SCRIPT: UNREADABLE\n"
 
 
-def run(program, defs, script, megabytes=None, out=subprocess.PIPE):
-    def limit():
-        if megabytes:
-            resource.setrlimit(resource.RLIMIT_AS, (megabytes << 20, megabytes << 20))
-
-    words = [program, "replay", defs, script]
-    return subprocess.run(words, stdout=out, stderr=subprocess.PIPE, preexec_fn=limit, timeout=600, check=False)
+def replayed(program, defs, script, **how):
+    return run([program, "replay", defs, script], timeout=600, **how)
 
 
 def told(done, text):
     """What was answered: what stands on standard output where that was expected, else standard error."""
-    said = done.stdout or b""
-    return (said if text.endswith(CLOSED) else done.stderr).decode(errors="replace")
+    return done.output if text.endswith(CLOSED) else done.error
 
 
 def main(program):
     wrong = 0
-    with tempfile.TemporaryDirectory() as folder:
-        defs, script = f"{folder}/defs.sql", f"{folder}/script.sql"
-        for name, one, two, status, line in texts():
-            write(defs, one), write(script, two)
-            wrong += judge(name, run(program, defs, script), status, line)
+    for name, one, two, status, line in texts():
+        with placed(one, two) as (defs, script):
+            wrong += judge(name, replayed(program, defs, script), status, line)
             # (with little memory each is answered the same, or that there is none: never by a signal)
             for megabytes in (64, 256):
-                done = run(program, defs, script, megabytes)
+                done = replayed(program, defs, script, kib=megabytes << 10)
                 wrong += judge_short(f"{name}, {megabytes} MB of memory", done, status, line)
+    with tempfile.TemporaryDirectory() as folder:
         for name, one, two, status, line in files(folder):
-            wrong += judge(name, run(program, one, two), status, line)
-        write(defs, TABLE), write(script, "A: BEGIN;")
-        with open("/dev/full", "wb") as full:
-            wrong += judge("a full disk", run(program, defs, script, out=full), 3, "")
+            wrong += judge(name, replayed(program, one, two), status, line)
+    with placed(TABLE, "A: BEGIN;") as (defs, script), open("/dev/full", "wb") as full:
+        wrong += judge("a full disk", replayed(program, defs, script, stdout=full), 3, "")
     print(f"{wrong} differ")
     return wrong != 0
 
 
-def write(path, text):
-    with open(path, "wb") as it:
-        it.write(text if isinstance(text, bytes) else text.encode())
-    return path
-
-
 def judge(name, done, status, line):
     got = told(done, line)
-    right = done.returncode == status and got == line
-    print(f"{'as said' if right else 'DIFFERS'}  {name}: {done.returncode} {got[:60].splitlines()[:1]}")
+    right = done.status == status and got == line
+    print(f"{'as said' if right else 'DIFFERS'}  {name}: {done.status} {got[:60].splitlines()[:1]}")
     return not right
 
 
 def judge_short(name, done, status, line):
     got = told(done, line)
-    no_memory = done.returncode == 1 and b"NO MEMORY" in (done.stderr + (done.stdout or b""))
-    right = no_memory or (done.returncode == status and got == line)
+    no_memory = done.status == 1 and "NO MEMORY" in done.error + done.output
+    right = no_memory or (done.status == status and got == line)
     if not right:
-        print(f"DIFFERS  {name}: {done.returncode} {done.stderr[:80]!r}")
+        print(f"DIFFERS  {name}: {done.status} {done.error[:80].encode('latin-1')!r}")
     return not right
 
 

@@ -25,8 +25,8 @@ import sys
 import time
 
 from c_library import kit
+from harness.programs import TOP
 
-TOP = pathlib.Path(__file__).resolve().parent.parent
 CRATES = TOP / "crates"
 TESTS = "manager_rows", "skewguard_c", "tests_of_libraries", "tests_of_programs"
 NO_LIBRARIES = "histories", "manager_rows", "tests_of_libraries", "tests_of_programs"

@@ -12,9 +12,9 @@ parser in crates/parse.
 import pathlib
 import random
 import re
-import subprocess
 import sys
-import tempfile
+
+from harness.programs import replay
 
 RESERVED = set("""ALL AND AS ASSERTION BEGIN BETWEEN BY CHECK COMMIT CONSTRAINTS COUNT CREATE DEFERRABLE DEFERRED DELETE EXISTS FALSE FROM
 GROUP HAVING IMMEDIATE IN INITIALLY INSERT INT INTEGER INTO IS KEY MAX MIN NOT NULL ONLY OR PRIMARY READ ROLLBACK SELECT SET SUM
@@ -196,12 +196,7 @@ def texts(count):
 
 def place_named(program, letter, text):
     """The place that the program names in a text, or None where the text is of the language for it."""
-    with tempfile.TemporaryDirectory() as folder:
-        for name, whose in ('defs.sql', 'D'), ('script.sql', 'S'):
-            pathlib.Path(folder, name).write_text(text if letter == whose else '')
-        done = subprocess.run([program, 'replay', 'defs.sql', 'script.sql'], cwd=folder, capture_output=True, text=True,
-                              timeout=60, check=False)
-    fault = FAULT.search(done.stderr)
+    fault = FAULT.search(replay(program, *(text if letter == whose else '' for whose in 'DS')).error)
     return None if fault is None else int(fault.group(1) or -1)
 
 

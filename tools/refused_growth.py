@@ -21,15 +21,18 @@ this compiles), until a run meets no refusal. One of these must come of it:
 And where an event was answered so and stands in the script once more right behind, it is answered the second time as it
 would have been the first.
 """
+import collections
+import itertools
 import os
 import re
-import subprocess
 import sys
 import tempfile
 
-HERE = os.path.dirname(os.path.abspath(__file__))
-NO_MEMORY = "REFUSED 1 - NO MEMORY"
-TOLD = 9  # the file descriptor on which the shim says that it refused
+from harness.programs import run
+from harness.refusing import found_none, run_refusing, shim
+from harness.reports import places_without_memory, with_refused
+from harness.texts import placed
+
 MARK = 7_654_321  # so many bytes are asked for by the test without memory, where memory ends
 
 TABLES = """CREATE TABLE SHIFTS (ID INTEGER PRIMARY KEY);
@@ -76,104 +79,56 @@ SAYS_NO_MEMORY = re.compile(r"^error: (NoMemory|AllocFailed.*|AllocError.*)$", r
 
 class Program:
     def __init__(self, path, folder):
-        self.path, self.folder = path, folder
-        self.shim = f"{folder}/refuse.so"
-        source = f"{HERE}/refuse_malloc.c"
-        subprocess.run(["gcc", "-shared", "-fPIC", "-O1", "-o", self.shim, source, "-ldl"], check=True)
+        self.path, self.shim = os.path.abspath(path), shim("refuse_malloc", folder)
 
     def run(self, definitions, events, words, refuse=None):
-        """Status, standard output, standard error, and whether an allocation was refused."""
-        defs, script = f"{self.folder}/defs.sql", f"{self.folder}/script.sql"
-        for path, text in ((defs, TABLES + definitions), (script, "".join(f"{event};\n" for event in events))):
-            with open(path, "w", encoding="utf-8") as it:
-                it.write(text)
-        return self.call(["replay", *words, defs, script], refuse)
+        """What a replay answers, and whether an allocation was refused."""
+        with placed(TABLES + definitions, "".join(f"{event};\n" for event in events)) as files:
+            return self.call(["replay", *words, *files], **({"REFUSE": refuse} if refuse else {}))
 
-    def call(self, words, refuse=None):
-        """The same of any words."""
-        return self.call_with(words, {"REFUSE": str(refuse)} if refuse else {})
-
-    def call_with(self, words, refusing):
-        """The same with what the shim is told; and how many allocations were refused, at most 99."""
-        environment = dict(os.environ, LD_PRELOAD=self.shim, **refusing) if refusing else dict(os.environ)
-        reading, writing = os.pipe()
-        done = subprocess.run([self.path, *words], env=environment, stdout=subprocess.PIPE,
-            stderr=subprocess.PIPE, preexec_fn=lambda: os.dup2(writing, TOLD), pass_fds=(TOLD,), text=True, check=False)
-        os.close(writing)
-        refused = len(os.read(reading, 99))
-        os.close(reading)
-        return done.returncode, done.stdout, done.stderr, refused
-
-
-def replies(output, events):
-    """How many lines of a report are the replies up to each event: rows stand on lines of their own."""
-    ends, line = [], 0
-    lines = output.splitlines()
-    for _ in events:
-        line += 1
-        while line < len(lines) and lines[line].startswith("  "):
-            line += 1
-        ends.append(line)
-    return lines, ends
-
-
-def refused_event(output, events):
-    """The place of the event that was answered that there is no memory, if one was."""
-    lines, ends = replies(output, events)
-    starts = enumerate([0, *ends[:-1]])
-    return next((at for at, start in starts if start < len(lines) and lines[start].endswith(NO_MEMORY)), None)
-
-
-def with_line(output, events, at):
-    """The report of the other events, with the refused one's line put in."""
-    others = events[:at] + events[at + 1:]
-    lines, ends = replies(output, others)
-    place = ends[at - 1] if at else 0
-    return "\n".join([*lines[:place], f"{events[at].split(':')[0]}: {NO_MEMORY}", *lines[place:]]) + "\n"
+    def call(self, words, **told):
+        """The same of any words, and of whatever the shim is told."""
+        return run_refusing([self.path, *words], self.shim, **told) if told else (run([self.path, *words]), 0)
 
 
 def judge(program, definitions, events, words, whole, got):
     """What came of a refused allocation, as a word; or None where it is none of what may come."""
-    status, out, err, _ = got
-    if status == 1 and out == "" and err in ("DEFS: REFUSED 1 - NO MEMORY\n", "SCRIPT: REFUSED 1 - NO MEMORY\n"):
-        return "a text"
-    if out == "" and (status == 1 and err == "REFUSED 1 - NO MEMORY\n" or status == 2 and "memory" in err):
-        return "the command line"
-    if status != 0 or err:
+    if found := found_none(got):
+        return found
+    if got.status != 0 or got.error:
         return None
-    at = refused_event(out, events)
-    if at is None:
-        return "as ever" if out == whole else None
-    without = program.run(definitions, events[:at] + events[at + 1:], words)[1]
-    return "an event" if out == with_line(without, events, at) else None
+    refused = places_without_memory(got.output, events)
+    if not refused:
+        return "as ever" if got.output == whole else None
+    at = refused[0]
+    without = program.run(definitions, events[:at] + events[at + 1:], words)[0].output
+    return "an event" if got.output == with_refused(without, events, [at]) else None
 
 
-def each_refusal(program, definitions, events, words):
+def each_refusal(run):
     """Each number, and what came of it, until a run meets no refusal."""
-    number = 1
-    while True:
-        got = program.run(definitions, events, words, number)
-        if not got[3]:
+    for number in itertools.count(1):
+        answer, refused = run(number)
+        if not refused:
             return
-        yield number, got
-        number += 1
+        yield number, answer
 
 
 def again(program, definitions, events, words, at, whole):
     """How often the event was refused memory where it stands twice, and how often it was then answered otherwise."""
     twice = events[:at + 1] + events[at:]
-    wanted = with_line(whole, twice, at)
+    wanted = with_refused(whole, twice, [at])
     met = wrong = 0
-    for _, got in each_refusal(program, definitions, twice, words):
-        if got[0] == 0 and refused_event(got[1], twice) == at:
+    for _, got in each_refusal(lambda number: program.run(definitions, twice, words, number)):
+        if got.status == 0 and places_without_memory(got.output, twice)[:1] == [at]:
             met += 1
-            wrong += got[1] != wanted
+            wrong += got.output != wanted
     return met, wrong
 
 
 def judge_test(got):
     """What came of a refused allocation in a test, as a word; or None where it is none of what may come."""
-    status, out, err, _ = got
+    status, out, err = got
     if status == 0:
         return "passed"
     return "no memory" if status > 0 and SAYS_NO_MEMORY.search(out + err) else None
@@ -181,22 +136,22 @@ def judge_test(got):
 
 def refuse_in_test(program, name):
     """How often each came of the test's refused allocations, and how many differ."""
-    count, number = {}, 1
-    while (got := program.call([name], number))[3]:
+    count = collections.Counter()
+    for number, got in each_refusal(lambda number: program.call([name], REFUSE=number)):
         what = judge_test(got)
         if what is None:
-            print(f"DIFFERS  {name}, allocation {number}: status {got[0]}\n{got[1]}{got[2]}")
-        count[what] = count.get(what, 0) + 1
-        number += 1
-    if number == 1 or got[0] != 0:
-        print(f"DIFFERS  {name}: no allocation was refused, or it fails with all of them: status {got[0]}")
-        count[None] = count.get(None, 0) + 1
-    return count, count.get(None, 0)
+            print(f"DIFFERS  {name}, allocation {number}: status {got.status}\n{got.output}{got.error}")
+        count[what] += 1
+    status = program.call([name])[0].status
+    if not count or status != 0:
+        print(f"DIFFERS  {name}: no allocation was refused, or it fails with all of them: status {status}")
+        count[None] += 1
+    return dict(count), count[None]
 
 
 def refuse_behind(program, name):
     """Whether a test without memory fails, or a call of it asks for memory."""
-    status, out, err, refused = program.call_with([name], {"REFUSE_BEHIND": str(MARK)})
+    (status, out, err), refused = program.call([name], REFUSE_BEHIND=MARK)
     bad = status != 0 or refused != 1
     if bad:
         print(f"DIFFERS  {name}: status {status}, {refused} allocations refused, not 1\n{out}{err}")
@@ -207,8 +162,8 @@ def try_tests(path, names, refuse):
     """Whether a test is not in the program, or one differs."""
     bad = 0
     with tempfile.TemporaryDirectory() as folder:
-        program = Program(os.path.abspath(path), folder)
-        listed = {line.split(": ")[0] for line in program.call(["--list"])[1].splitlines()}
+        program = Program(path, folder)
+        listed = {line.split(": ")[0] for line in program.call(["--list"])[0].output.splitlines()}
         for name in names:
             if name not in listed:
                 print(f"DIFFERS  {name}: the program has no such test")
@@ -224,21 +179,21 @@ def try_tests(path, names, refuse):
 def main(path, names):
     bad = 0
     with tempfile.TemporaryDirectory() as folder:
-        program = Program(os.path.abspath(path), folder)
+        program = Program(path, folder)
         for name in names or HISTORIES:
             definitions, events, words = HISTORIES[name]
-            whole = program.run(definitions, events, words)[1]
-            count = {}
-            for number, got in each_refusal(program, definitions, events, words):
+            whole = program.run(definitions, events, words)[0].output
+            count = collections.Counter()
+            for number, got in each_refusal(lambda number: program.run(definitions, events, words, number)):
                 what = judge(program, definitions, events, words, whole, got)
                 if what is None:
                     bad += 1
-                    print(f"DIFFERS  {name}, allocation {number}: status {got[0]}, {got[2]!r}\n{got[1]}")
-                count[what] = count.get(what, 0) + 1
+                    print(f"DIFFERS  {name}, allocation {number}: status {got.status}, {got.error!r}\n{got.output}")
+                count[what] += 1
             tried = [again(program, definitions, events, words, at, whole) for at in range(len(events))]
             met, otherwise = (sum(column) for column in zip(*tried))
             bad += otherwise
-            print(f"{name}: {sum(count.values())} allocations refused: {count}; tried again {met} times,"
+            print(f"{name}: {sum(count.values())} allocations refused: {dict(count)}; tried again {met} times,"
                 f" {otherwise} answered otherwise")
     print(f"{bad} differ")
     return bad != 0

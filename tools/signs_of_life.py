@@ -17,6 +17,8 @@ import tempfile
 import threading
 import time
 
+from harness.programs import from_terminal
+
 DEFS = """CREATE TABLE T (ID INTEGER PRIMARY KEY, A INTEGER);
 CREATE ASSERTION POSITIVE CHECK (NOT EXISTS (SELECT * FROM T WHERE A < 0));
 INSERT INTO T VALUES (1, 5);
@@ -38,35 +40,17 @@ class Run:
         words = [program, name, self.path]
         if name != "postgresql":
             words.append(os.path.join(folder, "script.sql"))
-        self.shown, self.printed, self.said = b"", b"", b""
+        self.shown, self.files = b"", [tempfile.TemporaryFile(), tempfile.TemporaryFile()]
         self.terminal, end = pty.openpty()
-        stream = {True: end, False: subprocess.PIPE}
-        self.process = subprocess.Popen(words, stdin=subprocess.DEVNULL, stdout=stream["output" in on],
-            stderr=stream["errors" in on])
+        streams = [end if name in on else file for name, file in zip(("output", "errors"), self.files)]
+        self.process = subprocess.Popen(words, stdin=subprocess.DEVNULL, stdout=streams[0], stderr=streams[1])
         os.close(end)
-        self.readers = [threading.Thread(target=self.read_terminal)]
-        if "output" not in on:
-            self.readers.append(threading.Thread(target=self.read_printed))
-        if "errors" not in on:
-            self.readers.append(threading.Thread(target=self.read_said))
-        for reader in self.readers:
-            reader.start()
+        self.reader = threading.Thread(target=self.read_terminal)
+        self.reader.start()
 
     def read_terminal(self):
-        while True:
-            try:
-                more = os.read(self.terminal, 65536)
-            except OSError:
-                more = b""
-            if not more:
-                return
+        while more := from_terminal(self.terminal):
             self.shown += more
-
-    def read_printed(self):
-        self.printed = self.process.stdout.read()
-
-    def read_said(self):
-        self.said = self.process.stderr.read()
 
     def feed(self):
         """Waits for the line to come twice, or for as long as that takes, and then hands the definitions over."""
@@ -79,9 +63,9 @@ class Run:
     def finish(self):
         self.feed()
         self.process.wait(PATIENCE)
-        for reader in self.readers:
-            reader.join()
+        self.reader.join()
         os.close(self.terminal)
+        self.printed, self.said = map(whole, self.files)
         # (a terminal turns each end of a line into two bytes)
         self.shown = self.shown.replace(b"\r\n", b"\n")
 
@@ -89,6 +73,13 @@ class Run:
         """What the terminal got behind the line; None where the line is not as it is wanted."""
         found = WIPED.match(self.shown)
         return self.shown[found.end():] if found else None
+
+
+def whole(file):
+    """What was written to a file."""
+    with file:
+        file.seek(0)
+        return file.read()
 
 
 def faults_of(plain, errors, both, refused):

@@ -6,13 +6,11 @@
 Each block of Rust on that page has to stand, line for line and but for what it is indented by, in a file of
 crates/rota/src. So what the page shows is proved and run.
 """
-import os
 import re
 import sys
 import textwrap
 
-TOP = os.path.dirname(os.path.dirname(os.path.abspath(__file__)))
-SOURCES = f"{TOP}/crates/rota/src"
+from harness.programs import TOP
 
 
 def stands(block, lines):
@@ -25,12 +23,10 @@ def stands(block, lines):
 
 
 def main():
-    with open(f"{TOP}/docs/LIBRARY.md", encoding="utf-8") as it:
-        blocks = re.findall(r"^```rust\n(.*?)^```$", it.read(), re.MULTILINE | re.DOTALL)
-    sources = []
-    for name in sorted(os.listdir(SOURCES)):
-        with open(f"{SOURCES}/{name}", encoding="utf-8") as it:
-            sources.append(it.read().splitlines())
+    page = (TOP / "docs/LIBRARY.md").read_text(encoding="utf-8")
+    blocks = re.findall(r"^```rust\n(.*?)^```$", page, re.MULTILINE | re.DOTALL)
+    files = sorted((TOP / "crates/rota/src").iterdir())
+    sources = [file.read_text(encoding="utf-8").splitlines() for file in files]
     missing = [block for block in blocks
         if not any(stands(textwrap.dedent(block).splitlines(), lines) for lines in sources)]
     for block in missing:

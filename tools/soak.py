@@ -16,34 +16,14 @@ import os
 import pathlib
 import random
 import re
-import resource
-import subprocess
 import sys
 import tempfile
 import time
 
-TOP = pathlib.Path(__file__).resolve().parent.parent
-NO_MEMORY = "REFUSED 1 - NO MEMORY"
-TEXT_REFUSED = [f"DEFS: {NO_MEMORY}\n", f"SCRIPT: {NO_MEMORY}\n", f"{NO_MEMORY}\n"]
-
-
-def run(words, kib=None):
-    """Status, standard output and standard error of a command, with at most so much address space."""
-    limit = (lambda: resource.setrlimit(resource.RLIMIT_AS, (kib << 10, kib << 10))) if kib else None
-    done = subprocess.run(list(map(str, words)), stdout=subprocess.PIPE, stderr=subprocess.PIPE, preexec_fn=limit,
-        timeout=600, text=True, check=False)
-    return done.returncode, done.stdout, done.stderr
-
-
-def replies(report):
-    """Its lines, each with the rows under it."""
-    groups = []
-    for line in report.splitlines():
-        if line.startswith("  ") and groups:
-            groups[-1].append(line)
-        else:
-            groups.append([line])
-    return groups
+from harness.programs import PROGRAM, run
+from harness.refusing import found_none
+from harness.reports import places_without_memory, with_refused
+from harness.texts import read, write
 
 
 class Soak:
@@ -55,50 +35,53 @@ class Soak:
     def least_memory(self, command):
         """The least KiB with which an empty script is run."""
         for path in (self.defs, self.script):
-            open(path, "w").close()
+            write(path, "")
         low, high = 0, 1 << 22
         while high - low > 64:
             middle = (low + high) // 2
-            if run([self.program, command, self.defs, self.script], middle)[0] == 0:
+            if self.run(command, middle).status == 0:
                 high = middle
             else:
                 low = middle
         return high
 
+    def run(self, command, kib):
+        return run([self.program, command, self.defs, self.script], kib=kib, timeout=600)
+
+    def ask(self, program, *words):
+        """What a program of the reference says."""
+        return run([sys.executable, self.reference / program, *words], timeout=600)
+
     def answered(self, script):
         """What the reference says of a script."""
-        return run([sys.executable, self.reference / "oracle.py", "replay", "--stage", "base", self.defs, script])
+        return self.ask("oracle.py", "replay", "--stage", "base", self.defs, script)
 
     def tally(self, report, what):
         for found in re.findall(r"^[A-Za-z0-9_]+: (COMMIT|ROLLBACK|REFUSED \d+)", report, re.M):
             self.count[f"{what}: {found}"] += 1
 
     def replay(self, whole, kib):
-        status, out, err = run([self.program, "replay", self.defs, self.script], kib)
-        if (status, out, err) == whole:
+        answer = self.run("replay", kib)
+        if answer == whole:
             return True
         if not kib:
             return False
-        if (status == 1 and err in TEXT_REFUSED or status == 2 and "memory" in err) and out == "":
+        if found_none(answer):
             self.count["replay: a text or the command line found no memory"] += 1
             return True
-        return status == 0 and self.is_without_events(replies(out))
+        return answer.status == 0 and self.is_without_events(answer.output)
 
-    def is_without_events(self, groups):
+    def is_without_events(self, report):
         """Whether a report is that of the script without the events that found no memory."""
-        events = open(self.script).read().splitlines()
-        refused = {at for at in range(len(events)) if groups[at][0].endswith(NO_MEMORY)}
+        events = read(self.script).splitlines()
+        refused = places_without_memory(report, events)
         self.count["replay: events without memory"] += len(refused)
         left = [event for at, event in enumerate(events) if at not in refused]
-        with open(self.other, "w") as it:
-            it.write("\n".join(left) + "\n")
-        want = replies(self.answered(self.other)[1])
-        for at in sorted(refused):
-            want.insert(at, [f"{events[at].split(':')[0]}: {NO_MEMORY}"])
-        return groups == want
+        write(self.other, "\n".join(left) + "\n")
+        return report == with_refused(self.answered(self.other).output, events, refused)
 
     def threads(self, kib):
-        status, out, err = run([self.program, "threads", self.defs, self.script], kib)
+        status, out, err = self.run("threads", kib)
         if kib and (status == 1 and "NO MEMORY" in err or status == 2 and "memory" in err):
             self.count["threads: a text, the run or the command line found no memory"] += 1
             return True
@@ -106,12 +89,11 @@ class Soak:
             self.count["threads: a session without a thread or a place"] += 1
         elif status != 0:
             return False
-        with open(self.other, "w") as it:
-            it.write(out)
+        write(self.other, out)
         self.tally(out, "threads")
         words = ["--stage", "base", "--sample", 10, self.defs, self.script, self.other]
         words += ["--allow-no-memory", "--allow-no-thread"] if kib else []
-        return run([sys.executable, self.reference / "check_threads.py", *words])[0] == 0
+        return self.ask("check_threads.py", *words).status == 0
 
     def load(self, drawn):
         """One load, run nine times; gives how many differ."""
@@ -119,9 +101,9 @@ class Soak:
             drawn.choice([1, 2, 4, 8, 16]), "--transactions", drawn.choice([5, 10, 20]), "--keys",
             drawn.choice([3, 10, 40]), "--contention", drawn.choice([0.1, 0.5, 0.9]), "--read-only", 0, "--seed",
             drawn.randrange(1 << 30)]
-        run([sys.executable, self.reference / "make_load.py", *words, self.defs, self.script])
+        self.ask("make_load.py", *words, self.defs, self.script)
         whole = self.answered(self.script)
-        self.tally(whole[1], "replay")
+        self.tally(whole.output, "replay")
         tries = [(self.replay, (whole, None))]
         tries += [(self.replay, (whole, self.least["replay"] + drawn.randrange(6000))) for _ in range(3)]
         tries += [(self.threads, (None,))] * 3
@@ -138,7 +120,7 @@ class Soak:
 def main():
     parser = argparse.ArgumentParser(description=__doc__.splitlines()[0])
     parser.add_argument("--reference", required=True, help="the folder of the plain reference")
-    parser.add_argument("--program", default=str(TOP / "crates" / "skewguard" / "out" / "skewguard"))
+    parser.add_argument("--program", default=str(PROGRAM))
     parser.add_argument("--minutes", type=float, default=30)
     parser.add_argument("--seed", type=int, default=1)
     words = parser.parse_args()

@@ -9,37 +9,24 @@ no thread is to be had (tools/refuse_threads.c, which this compiles) the session
 are none, and the status is 1; a replay needs no thread.
 """
 import os
-import subprocess
 import sys
 import tempfile
 
+from harness.programs import TOP, Answer, run_on
+from harness.refusing import shim
+from harness.texts import read
 from refused_growth import HISTORIES, TABLES
 
-TOP = os.path.dirname(os.path.dirname(os.path.abspath(__file__)))
-DATA = f"{TOP}/crates/skewguard/data"
+DATA = TOP / "crates/skewguard/data"
 WITHOUT = "A: REFUSED 24 - TOO MANY SESSIONS\nCOMMITS 0\nSERIAL\nREFUSED 0\n"
 
 
-def run(program, words, defs, script, preload=None):
-    """Status, standard output and standard error."""
-    environment = dict(os.environ, **({"LD_PRELOAD": preload} if preload else {}))
-    done = subprocess.run([program, *words, defs, script], env=environment, stdout=subprocess.PIPE,
-        stderr=subprocess.PIPE, text=True, check=False)
-    return done.returncode, done.stdout, done.stderr
-
-
-def files_of(folder):
-    """By name: the two files, words for the command line, and what is wanted, if it stands in a file."""
-    with open(f"{TOP}/crates/skewguard/stdout", encoding="utf-8") as it:
-        yield "data", f"{DATA}/defs.sql", f"{DATA}/script.sql", [], it.read()
+def texts():
+    """By name: definitions, a script, words for the command line, and what is wanted, if it stands in a file."""
+    yield "data", read(DATA / "defs.sql"), read(DATA / "script.sql"), [], read(TOP / "crates/skewguard/stdout")
     for name, (more, events, words) in HISTORIES.items():
-        if {event.split(":")[0] for event in events} != {"A"}:
-            continue
-        defs, script = f"{folder}/{name}-defs.sql", f"{folder}/{name}-script.sql"
-        for path, text in ((defs, TABLES + more), (script, "".join(f"{event};\n" for event in events))):
-            with open(path, "w", encoding="utf-8") as it:
-                it.write(text)
-        yield name, defs, script, words, None
+        if {event.split(":")[0] for event in events} == {"A"}:
+            yield name, TABLES + more, "".join(f"{event};\n" for event in events), words, None
 
 
 def closing_of(output):
@@ -50,24 +37,20 @@ def closing_of(output):
 def main(path):
     program, bad, count = os.path.abspath(path), 0, 0
     with tempfile.TemporaryDirectory() as folder:
-        shim = f"{folder}/refuse_threads.so"
-        subprocess.run(["gcc", "-shared", "-fPIC", "-O1", "-o", shim, f"{TOP}/tools/refuse_threads.c"], check=True)
-        nothing = f"{folder}/nothing.sql"
-        with open(nothing, "w", encoding="utf-8"):
-            pass
-        for name, defs, script, words, wanted in files_of(folder):
-            replayed = run(program, ["replay", *words], defs, script)
-            loaded = run(program, ["replay", *words], defs, nothing)
-            without = (1, WITHOUT + closing_of(loaded[1]), "")
+        refused = {"LD_PRELOAD": shim("refuse_threads", folder)}
+        for name, defs, script, words, wanted in texts():
+            replays, threads = ([program, command, *words] for command in ("replay", "threads"))
+            replayed = run_on(replays, defs, script)
+            without = Answer(1, WITHOUT + closing_of(run_on(replays, defs, "").output), "")
             for what, got, want in (
-                    ("replay", replayed, (0, wanted or replayed[1], "")),
-                    ("threads", run(program, ["threads", *words], defs, script), replayed),
-                    ("replay without threads", run(program, ["replay", *words], defs, script, shim), replayed),
-                    ("threads without threads", run(program, ["threads", *words], defs, script, shim), without)):
+                    ("replay", replayed, Answer(0, wanted or replayed.output, "")),
+                    ("threads", run_on(threads, defs, script), replayed),
+                    ("replay without threads", run_on(replays, defs, script, more=refused), replayed),
+                    ("threads without threads", run_on(threads, defs, script, more=refused), without)):
                 count += 1
                 if got != want:
                     bad += 1
-                    print(f"DIFFERS  {name}, {what}: {got}\nwanted: {want}")
+                    print(f"DIFFERS  {name}, {what}: {tuple(got)}\nwanted: {tuple(want)}")
     print(f"{count} runs, {bad} differ")
     return bad != 0 or count < 8
 

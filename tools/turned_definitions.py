@@ -23,7 +23,9 @@ import subprocess
 import sys
 from pathlib import Path
 
-REPOSITORY = Path(__file__).resolve().parent.parent
+from harness.crates import edges
+from harness.programs import TOP
+
 MODULES = {
     "form_check": ["Results", "Columns", "Leaves", "Queries", "Links", "Forms"],
     "alone": ["Reads", "Checks"],
@@ -152,28 +154,23 @@ TURNS = [
 
 def crates_below():
     """The crate meaning and those that it stands on, by crates.txt."""
-    edges = {}
-    for line in (REPOSITORY / "crates.txt").read_text().splitlines():
-        if ":" in line and not line.startswith("#"):
-            name, below = line.split(":", 1)
-            edges[name.split()[0]] = below.split()
-    wanted, left = {"meaning"}, ["meaning"]
+    wanted, left, below = {"meaning"}, ["meaning"], edges()
     while left:
-        for name in edges[left.pop()]:
-            if name in edges and name not in wanted:
+        for name in below[left.pop()]:
+            if name in below and name not in wanted:
                 wanted.add(name)
                 left.append(name)
-    return wanted, edges
+    return wanted, below
 
 
 def copy_to(folder):
     """The crates below, with what was built of them, and the definitions in the crate meaning."""
     shutil.rmtree(folder, ignore_errors=True)
-    wanted, edges = crates_below()
+    wanted, below = crates_below()
     (folder / "crates").mkdir(parents=True)
     for name in wanted:
-        subprocess.run(["cp", "-a", REPOSITORY / "crates" / name, folder / "crates" / name], check=True)
-    lines = [f"{name}: {' '.join(edges[name])}\n" for name in edges if name in wanted]
+        subprocess.run(["cp", "-a", TOP / "crates" / name, folder / "crates" / name], check=True)
+    lines = [f"{name}: {' '.join(below[name])}\n" for name in below if name in wanted]
     (folder / "crates.txt").write_text("".join(lines))
     subprocess.run(["git", "init", "-q"], cwd=folder, check=True)
     meaning = folder / "crates" / "meaning"

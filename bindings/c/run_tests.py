@@ -20,17 +20,22 @@ import subprocess
 import sys
 import tempfile
 
+sys.path.append(str(pathlib.Path(__file__).resolve().parent.parent.parent / "tools"))
+
+from harness.programs import TOP  # noqa: E402
+from harness.refusing import run_refusing, shim  # noqa: E402
+
 HERE = pathlib.Path(__file__).resolve().parent
-REPOSITORY = HERE.parent.parent
 EXAMPLES = "on-call", "ledger", "booking"
 PROGRAMS = "calls", "threads", "replay"
 SANITIZERS = "-fsanitize=address,undefined", "-fno-sanitize-recover=all"
 WARNINGS = "-Wall", "-Wextra", "-pedantic", "-Werror"
+LANGUAGES = ("-x", "c", "-std=c99"), ("-x", "c++", "-std=c++11")
+COMPILED = [(compiler, language) for compiler in ("gcc", "clang") for language in LANGUAGES]
 MOST_ALLOCATIONS = 20000
 
 # What tests/loop.c prints.
 LOOPS = "1 ONE 10 1\n2 TWO 20 1\n10\n20\n"
-DESCRIPTOR = 9
 
 
 class Tests:
@@ -54,20 +59,18 @@ def run(*words, **options):
 def compile_headers(tests, work):
     source = work / "header.c"
     source.write_text('#include "skewguard.h"\nint main(void) { return 0; }\n')
-    for compiler in ("gcc", "clang"):
-        for language in (("-x", "c", "-std=c99"), ("-x", "c++", "-std=c++11")):
-            made = run(compiler, *language, *WARNINGS, "-I", HERE, "-c", source, "-o", work / "header.o")
-            tests.note(f"header by {compiler} {language[1]}", made.returncode == 0, made.stderr)
+    for compiler, language in COMPILED:
+        made = run(compiler, *language, *WARNINGS, "-I", HERE, "-c", source, "-o", work / "header.o")
+        tests.note(f"header by {compiler} {language[1]}", made.returncode == 0, made.stderr)
 
 
 def compile_loops(tests, library, work):
     """A program as anyone writes it, by both compilers at each level, without a warning; it has to print its rows."""
-    for compiler in ("gcc", "clang"):
-        for language in (("-x", "c", "-std=c99"), ("-x", "c++", "-std=c++11")):
-            for level in ("-O0", "-O1", "-O2", "-O3", "-Os"):
-                words = (compiler, level, "-Wall", "-Wextra", "-Werror", f"-I{library}", *language)
-                ran = build_loop(library, work, *words)
-                tests.note(f"loops by {compiler} {level} {language[1]}", ran.stdout == LOOPS, ran.stdout + ran.stderr)
+    for compiler, language in COMPILED:
+        for level in ("-O0", "-O1", "-O2", "-O3", "-Os"):
+            words = (compiler, level, "-Wall", "-Wextra", "-Werror", f"-I{library}", *language)
+            ran = build_loop(library, work, *words)
+            tests.note(f"loops by {compiler} {level} {language[1]}", ran.stdout == LOOPS, ran.stdout + ran.stderr)
 
 
 def build_loop(library, work, *words):
@@ -88,7 +91,7 @@ def compile_by_package(tests, library, work):
     shutil.copy(library / "skewguard.h", root / "usr/include")
     for name in ("libskewguard.so", "libskewguard.so.0"):
         shutil.copy(library / name, libraries)
-    text = (REPOSITORY / "packaging/skewguard.pc").read_text().replace("@TRIPLET@", triplet)
+    text = (TOP / "packaging/skewguard.pc").read_text().replace("@TRIPLET@", triplet)
     (libraries / "pkgconfig/skewguard.pc").write_text(text.replace("@VERSION@", "0.1.0"))
     places = {"PKG_CONFIG_LIBDIR": str(libraries / "pkgconfig"), "PKG_CONFIG_SYSROOT_DIR": str(root)}
     places |= {"PKG_CONFIG_ALLOW_SYSTEM_CFLAGS": "1", "PKG_CONFIG_ALLOW_SYSTEM_LIBS": "1"}
@@ -110,7 +113,7 @@ def build(name, library, out, *flags):
 
 def example(name):
     """The files of an example, and its report."""
-    folder = REPOSITORY / "examples" / name
+    folder = TOP / "examples" / name
     return folder / "defs.sql", folder / "script.sql", (folder / "expected.txt").read_text()
 
 
@@ -128,13 +131,8 @@ def run_programs(tests, kind, calls, threads, replay):
 def refused_run(replay, preload, name, number):
     """Whether an allocation was refused, and whether the report was the same all the same."""
     definitions, script, report = example(name)
-    reader, writer = os.pipe()
-    environment = {"LD_PRELOAD": str(preload), "REFUSE": str(number), "REFUSE_TOLD": str(writer)}
-    given = run(replay, definitions, script, env=environment, pass_fds=(writer,))
-    os.close(writer)
-    told = os.read(reader, 1)
-    os.close(reader)
-    return bool(told), given.returncode == 0 and given.stdout == report
+    answer, refused = run_refusing([replay, definitions, script], preload, REFUSE=number)
+    return bool(refused), answer.status == 0 and answer.output == report
 
 
 def refuse_each(tests, replay, preload, name):
@@ -161,7 +159,7 @@ def main():
         work = pathlib.Path(folder)
         library = given.library or work / "library"
         if not given.library:
-            subprocess.run([sys.executable, REPOSITORY / "tools" / "c_library.py", library], check=True)
+            subprocess.run([sys.executable, TOP / "tools" / "c_library.py", library], check=True)
         compile_headers(tests, work)
         compile_loops(tests, library.resolve(), work)
         compile_by_package(tests, library.resolve(), work)
@@ -169,9 +167,7 @@ def main():
         run_programs(tests, "plain", *plain)
         sanitized = [build(name, library, work / f"{name}_sanitized", *SANITIZERS) for name in PROGRAMS]
         run_programs(tests, "sanitized", *sanitized)
-        preload = work / "refuse_malloc.so"
-        refuser = REPOSITORY / "tools" / "refuse_malloc.c"
-        subprocess.run(["cc", "-O2", "-shared", "-fPIC", refuser, "-o", preload], check=True)
+        preload = shim("refuse_malloc", work)
         refused = sum(refuse_each(tests, plain[-1], preload, name) for name in EXAMPLES)
     print(f"C library: {tests.passed} passed, {tests.failed} failed, {refused} allocations refused")
     sys.exit(tests.failed != 0)

@@ -1,0 +1,13 @@
+"""What the scripts of tools/ and bench/ have in common: programs and what they are run on, and what comes of it.
+
+    texts       files with texts, in a folder that goes with them
+    programs    one run of a program, and how it is built
+    refusing    a run in which the system refuses memory or threads
+    reports     the lines of a report, by the events that they answer
+    loads       tables with rules, and scripts over them
+    measures    what a run takes, and figures as docs/PERFORMANCE.md has them
+    servers     a PostgreSQL of one's own
+    crates      crates.txt and the kit
+
+Its tests: python3 -m unittest discover -s tools/harness/tests -t tools
+"""

@@ -1,0 +1,169 @@
+"""Each module of the package, on small programs of its own."""
+import os
+import pathlib
+import signal
+import sys
+import tempfile
+import unittest
+
+from harness import crates, loads, measures, programs, refusing, reports, texts
+
+# Answers with what it is given: its words, its files, its standard input.
+ECHO = """
+import sys
+for path in sys.argv[1:]:
+    sys.stdout.buffer.write(open(path, "rb").read())
+sys.stdout.buffer.write(sys.stdin.buffer.read())
+sys.stderr.write("SAID")
+sys.exit(3)
+"""
+# Asks for memory by the C library alone, three times, and answers which of them it got.
+ASKS = """
+#include <stdio.h>
+#include <stdlib.h>
+int main(void)
+{
+    char answers[3];
+    for (int at = 0; at < 3; at++)
+        answers[at] = malloc(1000 + at) ? 'y' : 'n';
+    return fwrite(answers, 1, 3, stdout) != 3;
+}
+"""
+REPORT = "A: BEGIN 0\nA: SELECT 2\n  1\n  2\nA: COMMIT 1\nCOMMITS 1\n  1\n"
+
+
+class Texts(unittest.TestCase):
+    def test_bytes_stay(self):
+        every = bytes(range(256))
+        with texts.placed(every, every.decode("latin-1")) as files:
+            self.assertEqual([os.path.basename(file) for file in files], ["defs.sql", "script.sql"])
+            self.assertEqual([pathlib.Path(file).read_bytes() for file in files], [every] * 2)
+            self.assertEqual(texts.read(files[0]).encode("latin-1"), every)
+        self.assertFalse(os.path.exists(os.path.dirname(files[0])))
+
+    def test_names_and_pieces(self):
+        with texts.placed("one", names=["one.sql"]) as (file,):
+            self.assertTrue(file.endswith("/one.sql"))
+            self.assertEqual(texts.read(texts.written(file, iter("abc"))), "abc")
+            self.assertEqual(texts.read(f"{file}.not", "none"), "none")
+
+    def test_gone_after_a_fault(self):
+        with self.assertRaises(ValueError), texts.placed("") as (file,):
+            raise ValueError
+        self.assertFalse(os.path.exists(file))
+
+
+class Programs(unittest.TestCase):
+    def test_answer(self):
+        words = [sys.executable, "-c", ECHO]
+        self.assertEqual(programs.run(words, "\xe9"), (3, "\xe9", "SAID"))
+        self.assertEqual(programs.run_on(words, b"a\r\n", "b", given=b"c"), (3, "a\r\nbc", "SAID"))
+
+    def test_environment_and_signals(self):
+        words = "sh", "-c", "echo $MORE $HOME; kill -9 $$"
+        answer = programs.run(words, more={"MORE": "more"})
+        self.assertEqual(answer, (-signal.SIGKILL, f"more {os.environ.get('HOME', '')}\n", ""))
+
+    def test_memory_is_limited(self):
+        room = "import mmap; mmap.mmap(-1, 1 << 30)"
+        self.assertEqual(programs.run([sys.executable, "-c", room]).status, 0)
+        self.assertEqual(programs.run([sys.executable, "-c", room], kib=1 << 19).status, 1)
+
+    def test_replay_has_its_words_in_order(self):
+        answer = programs.replay("/bin/echo", "d", "s", "--max-commits", 7).output.split()
+        self.assertEqual([os.path.basename(word) for word in answer],
+            ["replay", "--max-commits", "7", "defs.sql", "script.sql"])
+
+    def test_terminal(self):
+        reading, writing = os.pipe()
+        os.write(writing, b"shown")
+        os.close(writing)
+        self.assertEqual([programs.from_terminal(reading) for _ in range(2)], [b"shown", b""])
+        os.close(reading)
+        self.assertEqual(programs.from_terminal(reading), b"")
+
+
+class Refusing(unittest.TestCase):
+    def test_each_allocation(self):
+        with tempfile.TemporaryDirectory() as folder:
+            source, program = texts.write(f"{folder}/asks.c", ASKS), f"{folder}/asks"
+            self.assertEqual(programs.run(["gcc", "-O0", "-o", program, source]).status, 0)
+            shim = refusing.shim("refuse_malloc", folder)
+            runs = [refusing.run_refusing([program], shim, REFUSE=number) for number in (1, 2, 3, 50)]
+            self.assertEqual([(answer.output, count) for answer, count in runs],
+                [("nyy", 1), ("yny", 1), ("yyn", 1), ("yyy", 0)])
+            self.assertEqual(refusing.run_refusing([program], shim, REFUSE_BEHIND=1000)[0].output, "ynn")
+
+    def test_what_found_none(self):
+        for told, want in (((1, "", "DEFS: REFUSED 1 - NO MEMORY\n"), "a text"),
+                           ((1, "", "REFUSED 1 - NO MEMORY\n"), "the command line"),
+                           ((2, "", "no memory for words\n"), "the command line"),
+                           ((1, "A", "DEFS: REFUSED 1 - NO MEMORY\n"), None),
+                           ((0, "", "DEFS: REFUSED 1 - NO MEMORY\n"), None),
+                           ((1, "", "DEFS: REFUSED 2 - SYNTAX 0\n"), None), ((2, "", "usage\n"), None)):
+            self.assertEqual(refusing.found_none(programs.Answer(*told)), want)
+
+
+class Reports(unittest.TestCase):
+    def test_replies(self):
+        self.assertEqual(reports.replies(REPORT), [["A: BEGIN 0"], ["A: SELECT 2", "  1", "  2"], ["A: COMMIT 1"],
+            ["COMMITS 1", "  1"]])
+
+    def test_refused_events(self):
+        events = ["A: BEGIN", "B: BEGIN", "A: SELECT ID FROM T", "A: COMMIT", "A: BEGIN"]
+        report = reports.with_refused(REPORT, events, [3 + 1, 1])
+        self.assertEqual(report, REPORT.replace("A: SELECT", "B: REFUSED 1 - NO MEMORY\nA: SELECT").replace(
+            "COMMITS", "A: REFUSED 1 - NO MEMORY\nCOMMITS"))
+        self.assertEqual(reports.places_without_memory(report, events), [1, 4])
+        self.assertEqual(reports.places_without_memory(report, events[:2]), [1])
+        self.assertEqual(reports.places_without_memory("", events), [])
+
+
+class Loads(unittest.TestCase):
+    def test_tables(self):
+        ledger, on_call = list(loads.ledger(8)), list(loads.on_call(8))
+        self.assertEqual(ledger[1:], [f"INSERT INTO ACCT VALUES ({key}, {key // 4}, 1000000);\n" for key in range(8)])
+        self.assertEqual(ledger[0].count(";"), 2)
+        self.assertEqual(len(on_call), 1 + 2 + 8)
+        self.assertEqual(on_call[1::5], ["INSERT INTO SHIFTS VALUES (0);\n", "INSERT INTO DUTY VALUES (3, 0, 0);\n"])
+
+    def test_scripts(self):
+        self.assertEqual("".join(loads.script([("A", "BEGIN"), ("B", "COMMIT", "what else")])), "A: BEGIN;\nB: COMMIT;\n")
+        self.assertEqual("".join(loads.transactions(["X", "Y"], "COMMIT", "ROLLBACK", "S")),
+            "S: COMMIT;\nS: X;\nS: ROLLBACK;\nS: COMMIT;\nS: Y;\nS: ROLLBACK;\n")
+
+
+class Measures(unittest.TestCase):
+    def test_launched(self):
+        with tempfile.TemporaryDirectory() as folder:
+            used = measures.launched(["/bin/echo", "said"], f"{folder}/output")
+            self.assertEqual(texts.read(f"{folder}/output"), "said\n")
+            self.assertGreater(used.memory, 1 << 20)
+            self.assertLess(used.seconds, 10)
+            measures.launched(["/bin/false"], os.devnull, end=1)
+            with self.assertRaises(SystemExit):
+                measures.launched(["/bin/false"], os.devnull)
+
+    def test_figures(self):
+        figures = measures.Figures()
+        figures["us"] += [3.0, 1.0, 2.5]
+        self.assertEqual((figures.middle("us"), figures.middle("none")), (2.5, None))
+        self.assertEqual(measures.spread("us", figures["us"], 1), "us 1.0 2.5 3.0")
+        self.assertEqual(measures.spread("us", [], 1), "us -")
+        self.assertAlmostEqual(measures.exponent([(10, 5), (100, 500)]), 2)
+        self.assertIsNone(measures.exponent([(10, 5), (100, None)]))
+        self.assertEqual([measures.digits(it) for it in (1234, 12, 1.26, 0.0123, None)],
+            ["1,200", "12", "1.3", "0.012", "-"])
+        self.assertEqual(measures.numbers_of("1,20"), [1, 20])
+
+
+class Crates(unittest.TestCase):
+    def test_edges(self):
+        edges = crates.edges()
+        self.assertIn("table", edges["assertion"])
+        self.assertEqual(sum(len(of_group) for _, of_group in crates.groups()), len(edges))
+        self.assertTrue(all((programs.TOP / "crates" / crate / "src").is_dir() for crate in edges))
+
+
+if __name__ == "__main__":
+    unittest.main()
