@@ -325,8 +325,8 @@ abbrev pub ChangesRead : Option (List ℕ × List Value) → Database → Databa
 ChangesRead None old new r = IsTold old new r (response.Misused misuse.BadRequest)
 ChangesRead (Some fields) old new r = ChangesNamed (names_of fields.1) fields.0 old new r
 
--- what a request for a checkpoint makes, and is told: the first fault decides, in the order of the request's fields, its
--- names, its text and the rules; and there may be no memory
+-- what a request for a checkpoint makes, and is told: the first fault decides, in the order of the request's fields,
+-- its names, its text and the rules; and there may be no memory
 abbrev pub Checkpoints : List ℕ → Database → Database → Response → Type 0
 Checkpoints request old new r =
     IsWithoutMemory source.Rules old new r ⊎ ChangesRead (checkpoint_request request) old new r

@@ -24,9 +24,9 @@
 //! allows after those before it; no committed tables make an assertion false; the serial order has each commit once;
 //! and the committed transactions, run alone in it, answer what they answered and leave the newest tables
 //! (`IsSerializable` in `specs/Cores`). Each maintained verdict, on the committed tables and on each open transaction's
-//! own view, is its assertion evaluated from scratch (`specs/Verdicts`). What each committed transaction was told, out of
-//! the list of events and answers, is what it answers alone (`specs/Told`). The law behind it speaks of the definitions
-//! alone ([`answers_lead_to_a_serial_order`]).
+//! own view, is its assertion evaluated from scratch (`specs/Verdicts`). What each committed transaction was told, out
+//! of the list of events and answers, is what it answers alone (`specs/Told`). The law behind it speaks of the
+//! definitions alone ([`answers_lead_to_a_serial_order`]).
 //!
 //! How it works. What a core keeps at hand (the newest tables, the least conflict out of each commit, the order) is
 //! what its records determine, and each record was accepted over those before it and recorded as it runs alone on

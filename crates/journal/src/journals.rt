@@ -22,8 +22,9 @@ pub struct Journal<D: Device> {
 }
 
 impl<D: Device> Journal<D> {
-    /// The journal of a file that was read whole, by where `recover` found the end of its lines. What is read has to be
-    /// on the disk: a process that was killed leaves bytes that are read and that a crash may still take, so sync first.
+    /// The journal of a file that was read whole, by where `recover` found the end of its lines. What is read has to
+    /// be on the disk: a process that was killed leaves bytes that are read and that a crash may still take, so sync
+    /// first.
     pub fn reopen(device: D, bytes: &[u8], end: usize) -> Journal<D>
         ghost told: { Told }
         requires read { bytes.now ≡ D.seen device }

@@ -144,8 +144,8 @@ impl<N: Named> Book<N> {
     /// # Errors
     ///
     /// [`Refusal::Stranger`] exactly where the Book or the session is not of the manager that asks, or the session
-    /// has seen a number above the Book's; [`Refusal::EpochFull`] where 2^64 - 1 transactions have begun in the epoch; or
-    /// [`Refusal::NoMemory`]. All is then as it was.
+    /// has seen a number above the Book's; [`Refusal::EpochFull`] where 2^64 - 1 transactions have begun in the epoch;
+    /// or [`Refusal::NoMemory`]. All is then as it was.
     pub fn begin(
         &mut self,
         id: u64,

@@ -18,8 +18,8 @@ IsSmallRow row = All (λ v. magnitude v ≤ 10 ^ 15) row
 abbrev pub column_limit : ℕ
 column_limit = 2 ^ 50
 
--- The slots of a WHERE within a row, by their kinds. Each holds a value of the row around it: none is listed, since what
--- isn't listed is bounded as a column is.
+-- The slots of a WHERE within a row, by their kinds. Each holds a value of the row around it: none is listed, since
+-- what isn't listed is bounded as a column is.
 abbrev pub slots_around : List SlotKind
 slots_around = []
 

@@ -1,5 +1,5 @@
-//! The law on which serializability rests, of the transactions of this crate. It is the contract of a function that does
-//! nothing.
+//! The law on which serializability rests, of the transactions of this crate. It is the contract of a function that
+//! does nothing.
 
 ghost use Rattle.std.specs.Prelude.{◌≡◌, List};
 ghost use Rattle.assertion.specs.Declarations.{Declared, layouts_in};
