@@ -128,7 +128,7 @@ def python_tests(known, implementation):
     unittests(known)
     readme = (PYTHON / "README.md").read_text(encoding="utf-8")
     first = re.search(r"^```python\n(.*?)^```$", readme, re.MULTILINE | re.DOTALL).group(1)
-    printed = re.search(r"^It prints `(.*)`\.$", readme, re.MULTILINE).group(1)
+    printed = re.search(r"^It prints `([^`]*)`\.", readme, re.MULTILINE).group(1)
     wanted("the example of the README", run([sys.executable, "-c", first], env=known), f"{printed}\n")
     for name, expected in EXAMPLES.items():
         wanted(f"{name}.py", run([sys.executable, PYTHON / f"examples/{name}.py"], env=known), expected)

@@ -74,7 +74,8 @@ TESTS = ["rows::shift_write_skew", "rows::pivot_refused", "rows::same_key_insert
 WITHOUT = ["without_memory::without_memory", *(f"lower_without_memory::{name}" for name in ("values", "tables", "pages",
     "locks", "snapshots", "judgment", "a_commit_is_made", "a_commit_is_given_up", "a_transaction_ends"))]
 # What a test ends with; an assertion that fails says something else, even where it shows a line with these words.
-SAYS_NO_MEMORY = re.compile(r"^error: (NoMemory|AllocFailed.*|AllocError.*)$", re.MULTILINE)
+# (the last of these words is a writer's, of bytes in memory)
+SAYS_NO_MEMORY = re.compile(r"^error: (NoMemory|AllocFailed.*|AllocError.*|Kind\(OutOfMemory\))$", re.MULTILINE)
 
 
 class Program:
