@@ -3,12 +3,12 @@
 ghost use Rattle.std.specs.Prelude.{◌≤◌};
 
 use crate::endings::end_run;
-use crate::files::{Streams, USAGE};
+use crate::files::{Streams, USAGE, report_no_memory};
 use crate::texts::{Texts, limit_of, read_texts};
 use clap::ArgMatches;
 use replay::{ProgramFault, replay_into};
 use session::Shelf;
-use std::io::Write;
+use std::io::{BufWriter, Write};
 use std::marker::Brand;
 use std::rt::Files;
 use std::sync::Wait;
@@ -60,11 +60,18 @@ where
     ensures { result ≤ 3 }
 {
     let alloc = rt.alloc();
+    // (a report is written piece by piece)
+    let Ok(mut out) = BufWriter::new(alloc, &mut *streams.out) else {
+        return report_no_memory(streams.err);
+    };
     let (defs, script) = (texts.defs().bytes, texts.script_bytes());
     let run = match way {
-        Way::InOrder => replay_into(alloc, defs, script, limit, streams.out),
-        Way::OnThreads => run_threads(rt, defs, script, limit, streams.out),
+        Way::InOrder => replay_into(alloc, defs, script, limit, &mut out),
+        Way::OnThreads => run_threads(rt, defs, script, limit, &mut out),
     };
+    // (a run that ends early leaves answers in the buffer)
+    let _ = out.flush();
+    drop(out);
     end_run(alloc, run, texts, streams)
 }
 

@@ -8,7 +8,7 @@ use crate::texts::{Texts, limit_of, read_texts};
 use clap::ArgMatches;
 use shell::{ShellFault, converse_into, shell_into};
 use std::alloc::Global;
-use std::io::{BufReader, Input, Write};
+use std::io::{BufReader, BufWriter, Input, Write};
 use std::rt::Files;
 
 /// Answers what comes on standard input, on the definitions that the words name.
@@ -49,11 +49,17 @@ where
     let Ok(mut input) = BufReader::new(alloc, rt.reader()) else {
         return report_no_memory(streams.err);
     };
-    let served = if streams.in_is_terminal && streams.out_is_terminal {
-        converse_into(alloc, defs, limit, with_report, &mut input, streams.out)
-    } else {
-        shell_into(alloc, defs, limit, with_report, &mut input, streams.out)
+    // (an answer is written piece by piece, and the shell flushes what it has answered before it reads on)
+    let Ok(mut out) = BufWriter::new(alloc, &mut *streams.out) else {
+        return report_no_memory(streams.err);
     };
+    let served = if streams.in_is_terminal && streams.out_is_terminal {
+        converse_into(alloc, defs, limit, with_report, &mut input, &mut out)
+    } else {
+        shell_into(alloc, defs, limit, with_report, &mut input, &mut out)
+    };
+    let _ = out.flush();
+    drop(out);
     end_shell(alloc, served, texts, streams)
 }
 
