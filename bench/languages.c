@@ -2,7 +2,7 @@
  * Transactions of one UPDATE each, from C, on threads: skewguard behind a lock round each call, or SQLite in memory
  * behind a lock round each transaction. bench/languages.py builds and runs it.
  *
- *     languages skewguard|sqlite SETUP UPDATE CHANGES THREADS
+ *     languages skewguard|at_once|sqlite SETUP UPDATE CHANGES THREADS
  *
  * SETUP is a file of SQL; UPDATE a statement with two parameters; CHANGES a file of pairs of 64-bit numbers, the
  * values of each transaction. It prints the seconds that passed, those of the processor, and how many COMMITs others
@@ -97,7 +97,26 @@ static void change_in_skewguard(side *it, int thread, const int64_t *numbers)
         it->refused[thread]++;
 }
 
-static void open_skewguard(side *it, const char *setup, size_t length, const char *update)
+/* The whole transaction in one call. */
+static void change_at_once(side *it, int thread, const int64_t *numbers)
+{
+    skewguard_value values[2];
+    skewguard_step only;
+    skewguard_status status;
+    values[0] = skewguard_number(numbers[0]);
+    values[1] = skewguard_number(numbers[1]);
+    only.statement = it->statement;
+    only.values = values;
+    only.count = 2;
+    pthread_mutex_lock(&it->lock);
+    status = skewguard_run_transaction(&it->db, it->sessions[thread], &only, 1);
+    if (status != SKEWGUARD_DONE || !skewguard_next_reply(&it->db) || !skewguard_next_reply(&it->db)
+        || it->db.reply.kind != SKEWGUARD_UPDATED || it->db.reply.number != 1)
+        stop("a transaction was not answered as it has to be");
+    pthread_mutex_unlock(&it->lock);
+}
+
+static void open_skewguard(side *it, const char *setup, size_t length, const char *update, int at_once)
 {
     int thread;
     char name[16];
@@ -110,7 +129,7 @@ static void open_skewguard(side *it, const char *setup, size_t length, const cha
     }
     if (skewguard_prepare(&it->db, update, strlen(update), &it->statement) != SKEWGUARD_DONE)
         stop("the statement was refused");
-    it->change = change_in_skewguard;
+    it->change = at_once ? change_at_once : change_in_skewguard;
 }
 
 /* -- SQLite */
@@ -173,7 +192,7 @@ int main(int count, char **words)
     int thread;
 
     if (count != 6)
-        stop("languages skewguard|sqlite SETUP UPDATE CHANGES THREADS");
+        stop("languages skewguard|at_once|sqlite SETUP UPDATE CHANGES THREADS");
     it.threads = atoi(words[5]);
     if (it.threads < 1 || it.threads > MOST_THREADS)
         stop("so many threads are not taken");
@@ -182,7 +201,7 @@ int main(int count, char **words)
     it.changes = (const int64_t *)(const void *)read_file(words[4], &bytes);
     it.count = bytes / 16;
     if (strcmp(words[1], "sqlite"))
-        open_skewguard(&it, setup, length, words[3]);
+        open_skewguard(&it, setup, length, words[3], !strcmp(words[1], "at_once"));
     else
         open_sqlite(&it, setup, words[3]);
 

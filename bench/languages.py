@@ -4,6 +4,7 @@
     python3 bench/languages.py [--library FOLDER] [--rows 10000,100000] [--threads 1,4] [--forms "by row,by group"]
                                [--transactions 20000] [--repetitions 5]
     python3 bench/languages.py --instructions [--library FOLDER] [--rows 1000] [--forms ..] [--transactions 300]
+    python3 bench/languages.py --many [--library FOLDER] [--repetitions 5]
 
 FOLDER has libskewguard.so; without it tools/c_library.py builds it. It needs a C compiler, libsqlite3-dev and Python's
 headers. The table that docs/PERFORMANCE.md holds is printed as it stands there. Python is measured twice: by the
@@ -18,7 +19,11 @@ rules and SQLite's triggers are those of bench/statements.py. Each side is calle
 from C by the functions of its header under a lock round each call, and from Python by `with manager.transaction()`;
 SQLite by statements that are prepared once, under a lock round the whole transaction, since a connection in memory has
 one transaction at a time. Threads share one database and take turns at the same list of changes. Where others were in
-the way of a COMMIT of skewguard, the transaction is run again, and that is counted.
+the way of a COMMIT of skewguard, the transaction is run again, and that is counted. "At once" is the same in one call
+of skewguard (skewguard_run_transaction, manager.run_transaction).
+
+With --many it is one statement with many values: an INSERT of a thousand rows in a transaction, by a call for each row
+(execute), by one call (run_all), and by the cursor's executemany, beside that of the module sqlite3.
 
 Each measurement is a process of its own; the sides take turns. Medians count, of the time that passed on the clock and
 of that of the processor. Each answer is looked at: a statement that did not change one row ends the run.
@@ -42,7 +47,11 @@ from replays import TOP, digits, machine, table, written
 from statements import FORMS, text
 
 LANGUAGES = ("C", "Python", "ctypes")
-SIDES = ("skewguard", "sqlite")
+SIDES = ("skewguard", "at_once", "sqlite")
+
+# How a statement is run with many values, and how many.
+WAYS = ("execute", "run_all", "executemany", "sqlite")
+MANY = 1000
 
 
 def update_of(form):
@@ -68,7 +77,8 @@ def write_setups(form, rows, folder):
     loaded = [f"{text(*one)}\n" for one in form.loaded(rows)]
     after = [f"{one};\n" for one in (*form.side, *form.triggers)]
     return {
-        "skewguard": written(f"{folder}/skewguard", form.definitions(rows)),
+        "skewguard": (own := written(f"{folder}/skewguard", form.definitions(rows))),
+        "at_once": own,
         "sqlite": written(f"{folder}/sqlite", [*form.tables, "BEGIN;\n", *loaded, "COMMIT;\n", *after, "ANALYZE;\n"]),
     }
 
@@ -104,6 +114,22 @@ def in_skewguard(setup, update):
     return change
 
 
+def at_once(setup, update):
+    """What makes a change in skewguard by one call."""
+    import skewguard
+
+    if skewguard.IMPLEMENTATION != os.environ["WANTED"]:
+        raise ValueError(f"this is the implementation {skewguard.IMPLEMENTATION}")
+    manager = skewguard.open(pathlib.Path(setup).read_text())
+
+    def change(values):
+        if manager.run_transaction([(update, values)], retry=0)[1][0].count != 1:
+            raise ValueError("an UPDATE was not answered as it has to be")
+        return 0
+
+    return change
+
+
 def in_sqlite(setup, update):
     """What makes a change in SQLite."""
     base = sqlite3.connect(":memory:", isolation_level=None, check_same_thread=False)
@@ -123,7 +149,7 @@ def in_sqlite(setup, update):
 
 def run_in_python(side, setup, update, path, threads):
     """Prints what bench/languages.c prints."""
-    change = {"skewguard": in_skewguard, "sqlite": in_sqlite}[side](setup, update)
+    change = {"skewguard": in_skewguard, "at_once": at_once, "sqlite": in_sqlite}[side](setup, update)
     changes = list(struct.iter_unpack("<qq", pathlib.Path(path).read_bytes()))
     refused, faults = [], []
 
@@ -143,6 +169,58 @@ def run_in_python(side, setup, update, path, threads):
     if faults:
         raise faults[0]
     print(f"{passed:.6f} {used:.6f} {sum(refused)}")
+
+
+def inserted(way):
+    """What inserts many rows in one transaction, which is rolled back."""
+    create, insert = "CREATE TABLE T (ID INTEGER PRIMARY KEY, N INTEGER)", "INSERT INTO T VALUES (?, ?)"
+    rows = [(place, 7 * place) for place in range(MANY)]
+    if way == "sqlite":
+        connection = sqlite3.connect(":memory:")
+        connection.execute(create)
+        connection.commit()
+        return lambda: (connection.executemany(insert, rows), connection.rollback())
+    import skewguard
+    from skewguard import dbapi
+
+    connection = dbapi.connect(f"{create};")
+    transaction = connection.manager.transaction
+
+    def by_call(run):
+        with transaction() as own:
+            run(own)
+            own.rollback()
+
+    return {
+        "execute": lambda: by_call(lambda own: [own.execute(insert, row) for row in rows]),
+        "run_all": lambda: by_call(lambda own: own.run_all(insert, rows)),
+        "executemany": lambda: (connection.cursor().executemany(insert, rows), connection.rollback()),
+    }[way]
+
+
+def run_many(way):
+    """Prints the microseconds a statement, of the clock: the least of twenty transactions."""
+    insert, times = inserted(way), []
+    for _ in range(20):
+        start = time.perf_counter()
+        insert()
+        times.append(time.perf_counter() - start)
+    print(f"{1e6 * min(times) / MANY:.3f}")
+
+
+def print_many(commands, repetitions):
+    """One statement with many values, by each way."""
+    rows = []
+    for language in ("Python", "ctypes"):
+        (python, *_), known = commands[language]
+        words = [python, os.path.abspath(__file__), "--run-many"]
+        known = os.environ | known
+        done = [
+            [float(subprocess.run([*words, way], check=True, capture_output=True, env=known).stdout) for way in WAYS]
+            for _ in range(repetitions)
+        ]
+        rows.append([language, *(digits(time) for time in medians(done))])
+    table(["from", *(f"{way}, us a row" for way in WAYS)], rows)
 
 
 # -- all of them
@@ -193,7 +271,7 @@ def commands_of(library, folder):
 
 def sides_of(language):
     """What is run from a language. SQLite is run from Python once, since the implementation changes nothing there."""
-    return SIDES[:1] if language == "ctypes" else SIDES
+    return SIDES[:2] if language == "ctypes" else SIDES
 
 
 def ran(command, known, side, setup, update, changes, threads):
@@ -248,10 +326,11 @@ def count(form, rows, asked, commands, folder):
 
 
 def print_counts(found):
-    heads = ["form", "rows", "from", "skewguard, instructions", "SQLite, instructions", "SQLite / skewguard"]
+    heads = ["form", "rows", "from", "skewguard, instructions", "at once", "SQLite, instructions", "SQLite / skewguard"]
     rows = []
-    for (form, size, language), (own, other) in found.items():
-        rows.append([form, f"{size:,}", language, f"{own:,.0f}", f"{other:,.0f}", digits(other / own)])
+    for (form, size, language), (own, whole, other) in found.items():
+        counts = [f"{one:,.0f}" for one in (own, whole, other)]
+        rows.append([form, f"{size:,}", language, *counts, digits(other / own)])
     table(heads, rows)
 
 
@@ -260,12 +339,13 @@ def medians(figures):
 
 
 def print_table(found):
-    heads = ["form", "rows", "threads", "from", "skewguard, us", "SQLite, us", "SQLite / skewguard"]
-    heads += ["skewguard, processor", "SQLite, processor", "tried again"]
+    heads = ["form", "rows", "threads", "from", "skewguard, us", "at once, us", "SQLite, us", "SQLite / skewguard"]
+    heads += ["skewguard, processor", "at once, processor", "SQLite, processor", "tried again"]
     rows = []
     for (form, size, threads, language), figures in found.items():
-        (own, own_used, refused), (other, other_used, _) = (medians(figures[side]) for side in SIDES)
-        times = [digits(time) for time in (own, other, other / own, own_used, other_used)]
+        sides = [medians(figures[side]) for side in SIDES]
+        (own, own_used, refused), (whole, whole_used, _), (other, other_used, _) = sides
+        times = [digits(time) for time in (own, whole, other, other / own, own_used, whole_used, other_used)]
         rows.append([form, f"{size:,}", str(threads), language, *times, f"{refused:.0f}"])
     table(heads, rows)
 
@@ -283,6 +363,7 @@ def parsed():
     words.add_argument("--transactions", type=int)
     words.add_argument("--repetitions", type=int, default=5)
     words.add_argument("--instructions", action="store_true")
+    words.add_argument("--many", action="store_true")
     asked = words.parse_args()
     asked.rows = asked.rows or ([1000] if asked.instructions else [10_000, 100_000])
     asked.transactions = asked.transactions or (300 if asked.instructions else 20_000)
@@ -294,6 +375,9 @@ def main():
     with tempfile.TemporaryDirectory() as folder:
         commands = commands_of(linked(asked.library, folder), folder)
         print(f"SQLite {sqlite3.sqlite_version}, {machine(asked.repetitions)}", flush=True)
+        if asked.many:
+            print_many(commands, asked.repetitions)
+            return
         for form in FORMS:
             for rows in asked.rows if form.name in asked.forms else ():
                 if asked.instructions:
@@ -313,5 +397,7 @@ def main():
 if __name__ == "__main__":
     if sys.argv[1:2] == ["--run"]:
         run_in_python(*sys.argv[2:6], int(sys.argv[6]))
+    elif sys.argv[1:2] == ["--run-many"]:
+        run_many(sys.argv[2])
     else:
         main()

@@ -1,10 +1,10 @@
 #!/usr/bin/env python3
-"""Builds the C library into a folder, of the proved archive.
+"""Builds the C library into a folder, of the proved archive and of bindings/c/journal.c.
 
     tools/c_library.py FOLDER [--archive FILE | --behind-gate]
 
 FOLDER gets skewguard.h, libskewguard.a, and libskewguard.so.0.1.0 with the links libskewguard.so.0 (its soname) and
-libskewguard.so. Of either library only the three functions of the header can be seen. Without --archive, `rt lib`
+libskewguard.so. Of either library only the functions that the header declares can be seen. Without --archive, `rt lib`
 proves and builds crates/skewguard_c/out/libskewguard_c.a; it takes no time where nothing has changed.
 
 With --behind-gate the crates below are those that `rt ci` has just proved from nothing and left built. It marks them as
@@ -27,7 +27,10 @@ CRATE = TOP / "crates" / "skewguard_c"
 HEADER = TOP / "bindings" / "c" / "skewguard.h"
 SONAME = "libskewguard.so.0"
 FILE = "libskewguard.so.0.1.0"
-EXPORTS = "skewguard_library_open", "skewguard_library_call", "skewguard_library_close"
+JOURNAL = TOP / "bindings" / "c" / "journal.c"
+PROVED = tuple(f"skewguard_library_{name}" for name in ("open", "call", "close", "draw", "open_journal", "take_calls"))
+EXPORTS = (*PROVED, *(f"skewguard_journal_{name}" for name in (
+    "open", "call", "close", "start", "take", "make", "made", "failure")))
 
 
 def run(*words, folder=None):
@@ -66,8 +69,9 @@ def memory_archive():
 
 def one_object(archive, work):
     """All of both archives, in which only the exports can be seen."""
-    whole = work / "skewguard.o"
-    run("ld", "-r", "-o", whole, "--whole-archive", archive, "--no-whole-archive", memory_archive())
+    whole, journal = work / "skewguard.o", work / "journal.o"
+    run("cc", "-std=c99", "-O2", "-Wall", "-Wextra", "-Werror", "-fPIC", "-c", JOURNAL, "-o", journal)
+    run("ld", "-r", "-o", whole, journal, "--whole-archive", archive, "--no-whole-archive", memory_archive())
     run("objcopy", *(f"--keep-global-symbol={name}" for name in EXPORTS), whole)
     return whole
 

@@ -4,13 +4,14 @@
     tools/fuzz_calls.py LIBRARY PROGRAM [--calls 100000] [--seed 1]
 
 LIBRARY is a libskewguard.so, PROGRAM the program skewguard. Each run has some definitions and up to five sessions, and
-is 500 calls: events as texts, by calls of their own, and prepared with values; sessions that are closed and opened
-again, and three hundred of other names one after the other; checkpoints that drop and create rules; and calls that no
-library should be given, as sessions that are closed, statements that were never prepared, requests of random bytes and
-operations that there are not. What each event was answered is asked for as the line of a report, and the reply's bytes
-have to say the same; a call that is misused, or refused for its rules, may change nothing. In the end the events of
-each epoch are replayed as a script, over the rules of that epoch and the rows that it began on: every line, and the
-closing part, have to be the same bytes. The last line says how many calls were made, and how many runs differ.
+is 500 calls: events as texts, by calls of their own, and prepared with values, also several in one call, and whole
+transactions in one; sessions that are closed and opened again, and three hundred of other names one after the other;
+checkpoints that drop and create rules; and calls that no library should be given, as sessions that are closed,
+statements that were never prepared, requests of random bytes and operations that there are not. What each event was
+answered is asked for as the line of a report, and the reply's bytes have to say the same; a call that is misused, or
+refused for its rules, may change nothing. In the end the events of each epoch are replayed as a script, over the rules
+of that epoch and the rows that it began on: every line, and the closing part, have to be the same bytes. The last line
+says how many calls were made, and how many runs differ.
 """
 import argparse
 import collections
@@ -24,11 +25,11 @@ import typing
 from harness.programs import replay
 
 (AGAIN, LINE, OPEN_SESSION, CLOSE_SESSION, PREPARE, FORGET, RUN, EXECUTE, BEGIN, BEGIN_READ_ONLY, COMMIT, ROLLBACK,
- REPORT, CHECKPOINT) = range(14)
+ REPORT, CHECKPOINT, RUN_ALL, TRANSACT, IMAGE) = range(17)
 DONE, REFUSED = 0, 1
 (BAD_REQUEST, NO_SESSION, NO_STATEMENT, WRONG_COUNT, BAD_VALUE, BAD_NAME, NAME_TAKEN) = range(4, 11)
 SESSION, STATEMENT, BEGUN, COMMITTED, ROLLED_BACK, INSERTED, UPDATED, DELETED, ROWS = 2, 3, 5, 6, 7, 8, 9, 10, 11
-MODES_SET, VERDICT, TEXT, REFUSAL = 12, 13, 14, 15
+MODES_SET, VERDICT, TEXT, REFUSAL, MISUSED, SEVERAL = 12, 13, 14, 15, 16, 17
 ENDING = "10 40002", "12 40001", "13 40001", "17 -"
 CALLS_IN_A_RUN = 500
 
@@ -86,6 +87,8 @@ STATEMENTS = {
     "INSERT INTO NOWHERE VALUES (?)": "n",
 }
 USERS = 300
+# In a text each byte is one character, as in the harness.
+PAST_ASCII = tuple(text.encode("utf-8").decode("latin-1") for text in ("Žofie", "日本語'😀"))
 NO_NAMES = b"", b"A B", b"SELECT", b"\xff", b"1A", b"A" * 129
 EVENTS = {BEGIN: "BEGIN", BEGIN_READ_ONLY: "BEGIN READ ONLY", COMMIT: "COMMIT", ROLLBACK: "ROLLBACK"}
 
@@ -156,6 +159,15 @@ class Library:
             return self.call(operation if operation == LINE else AGAIN, b"", length.value)
         return status, buffer.raw[:length.value]
 
+    def lines(self):
+        """The lines of a call that made several events."""
+        reader = Reader(self.call(LINE, b"")[1])
+        if reader.byte() != SEVERAL:
+            raise ValueError("no lines")
+        lines = [reader.text() for _ in range(reader.number()) if reader.byte() == TEXT]
+        reader.done()
+        return lines
+
     def line(self):
         status, reply = self.call(LINE, b"")
         reader = Reader(reply)
@@ -177,6 +189,13 @@ def rows_of(reader):
 def told_by(reply):
     """What the fields of a reply say, as the line of a report has it behind the session's name."""
     reader = Reader(reply)
+    told = told_next(reader)
+    reader.done()
+    return told
+
+
+def told_next(reader):
+    """The same of the next of several; nothing where a call was not made."""
     kind = reader.byte()
     words = {BEGUN: "BEGIN", COMMITTED: "COMMIT", INSERTED: "INSERT", UPDATED: "UPDATE", DELETED: "DELETE"}
     if kind in words:
@@ -192,9 +211,10 @@ def told_by(reply):
         told = f"SELECT {len(rows)}" + "".join("\n  " + ", ".join(map(literal, row)) for row in rows)
     elif kind == REFUSAL:
         told = refusal_of(reader)
+    elif kind in (0, MISUSED):
+        told = str(reader.number()) if kind else ""
     else:
         raise ValueError(f"a reply of kind {kind}")
-    reader.done()
     return kind, told
 
 
@@ -250,7 +270,7 @@ class Run:
         if self.chance.random() < 0.03:
             kind = self.chance.choice("nto")
         if kind == "t":
-            return self.chance.choice(("KIM", "LEE", "O'HARA", "EVE", "", "'; --", "NINELONGER"))
+            return self.chance.choice(("KIM", "LEE", "O'HARA", "EVE", "", "'; --", "NINELONGER", *PAST_ASCII))
         if kind == "o" and self.chance.random() < 0.2:
             return None
         return self.chance.choice((0, 0, 1, 1, 2, 3, 4, 5, 6, 7, 8, 9, -1))
@@ -266,13 +286,16 @@ class Run:
         status, reply = self.call(operation, request)
         self.expect(status in (DONE, REFUSED), f"status {status} of {text}")
         kind, told = told_by(reply)
-        line = self.library.line()
+        self.expect((status == REFUSED) == (kind == REFUSAL), f"status {status} with kind {kind}")
+        self.answered(name, text, kind, told, self.library.line())
+
+    def answered(self, name, text, kind, told, line):
+        """An event was answered so, and this is its line."""
         if line.startswith("STATEMENT: "):
             raise ValueError(f"{text} was refused as a text: {line}")
         shown = line.split(": ", 1)[1].rstrip("\n")
         self.expect(line.startswith(f"{name}: "), line)
         self.expect(told == shown or (kind == VERDICT and shown.endswith(" " + told)), f"{told!r} is not {shown!r}")
-        self.expect((status == REFUSED) == (kind == REFUSAL), f"status {status} with kind {kind}")
         if kind == BEGUN:
             self.in_transaction[name] = True
         elif kind in (COMMITTED, ROLLED_BACK) or (text == "COMMIT" and shown[8:].startswith(ENDING)):
@@ -371,13 +394,13 @@ class Run:
 
     def rows_of_table(self, name, session, table):
         text = f"SELECT * FROM {table}"
-        self.event(name, text, EXECUTE, number(session) + text.encode())
+        self.event(name, text, EXECUTE, number(session) + text.encode("latin-1"))
         rows = self.lines[-1].splitlines()[1:]
         return [f"INSERT INTO {table} VALUES ({row.strip()});" for row in rows]
 
     def prepare(self):
         text = self.chance.choice(list(STATEMENTS))
-        status, reply = self.call(PREPARE, text.encode())
+        status, reply = self.call(PREPARE, text.encode("latin-1"))
         reader = Reader(reply)
         self.expect(status == DONE and reader.byte() == STATEMENT, f"status {status} of preparing {text}")
         statement, parameters = reader.number(), reader.number()
@@ -397,6 +420,55 @@ class Run:
         written = "".join(piece + literal(value) for piece, value in zip(pieces, values)) + pieces[-1]
         self.event(name, written, RUN, request)
 
+    def step_of(self):
+        """A statement with values for a call of several: its text, its bytes, and the status where it can't be run."""
+        statement, text = self.chance.choice(list(self.statements.items()))
+        values = [self.value(kind) for kind in STATEMENTS[text]]
+        pieces = text.split("?")
+        written = "".join(piece + literal(value) for piece, value in zip(pieces, values)) + pieces[-1]
+        may_be_null = len(values) if text.startswith("INSERT") else text.startswith("UPDATE DUTY SET ONCALL = ?")
+        wrong = BAD_VALUE if None in values[int(may_be_null):] else None
+        pick = self.chance.random()
+        if pick < 0.02:
+            return written, number(10**9) + number(0), NO_STATEMENT
+        if pick < 0.04:
+            return written, number(statement) + number(len(values) + 1) + b"\0" * (len(values) + 1), WRONG_COUNT
+        return written, number(statement) + number(len(values)) + b"".join(map(value_bytes, values)), wrong
+
+    def several(self):
+        """Statements in one call, or a whole transaction."""
+        name, session = self.session()
+        steps = [self.step_of() for _ in range(self.chance.randrange(5))]
+        request = number(session) + number(len(steps)) + b"".join(step for _, step, _ in steps)
+        is_whole = self.chance.random() < (0.1 if self.in_transaction[name] else 0.9)
+        if is_whole:
+            steps = [("BEGIN", b"", None), *steps, ("COMMIT", b"", None)]
+        status, reply = self.call(TRANSACT if is_whole else RUN_ALL, request)
+        reader, lines, found = Reader(reply), self.library.lines(), DONE
+        self.expect(reader.byte() == SEVERAL and reader.number() == len(lines), f"{reply!r} with {lines}")
+        count = 0
+        for (text, _, wrong), line in zip(steps, lines):
+            count += 1
+            kind, told = told_next(reader)
+            if wrong:
+                self.expect(kind in (0, MISUSED) and not line, f"{text} was answered {told}")
+                found = wrong
+            else:
+                self.answered(name, text, kind, told, line)
+                found = REFUSED if kind == REFUSAL else DONE
+            if found:
+                break
+        if is_whole and found and 1 < count < len(steps):
+            kind, told = told_next(reader)
+            self.answered(name, "ROLLBACK", kind, told, lines[count])
+            self.expect(kind == ROLLED_BACK, "a transaction that was refused was not rolled back")
+            count += 1
+        elif not found:
+            self.expect(count == len(steps), f"{count} of {len(steps)} were run")
+        reader.done()
+        self.expect(status == found and count == len(lines), f"status {status}, wanted {found}; {count} of {lines}")
+        self.expect(self.library.call(AGAIN, b"") == (status, reply), "the replies are others when they come again")
+
     def execute(self):
         name, session = self.session()
         text = self.chance.choice(list(STATEMENTS))
@@ -405,7 +477,7 @@ class Run:
             if value is None and not text.startswith("INSERT"):
                 value = 0
             text = text.replace("?", literal(value), 1)
-        self.event(name, text, EXECUTE, number(session) + text.encode())
+        self.event(name, text, EXECUTE, number(session) + text.encode("latin-1"))
 
     def bound(self):
         name, session = self.chance.choice(list(self.sessions.items()))
@@ -415,7 +487,7 @@ class Run:
             operation = self.chance.choices((BEGIN, BEGIN_READ_ONLY, COMMIT), (12, 1, 1))[0]
         if self.chance.random() < 0.3:
             text = EVENTS[operation]
-            return self.event(name, text, EXECUTE, number(session) + text.encode())
+            return self.event(name, text, EXECUTE, number(session) + text.encode("latin-1"))
         self.event(name, EVENTS[operation], operation, number(session))
 
     def foul(self):
@@ -430,7 +502,11 @@ class Run:
             lambda: self.misuse(EXECUTE, gone + b"BEGIN", status),
             lambda: self.misuse(FORGET, number(10**9), NO_STATEMENT),
             lambda: self.misuse(RUN, live + number(10**9) + number(0), NO_STATEMENT),
-            lambda: self.misuse(chance.randrange(14, 2**32), noise, BAD_REQUEST),
+            lambda: self.misuse(chance.randrange(17, 2**32), noise, BAD_REQUEST),
+            lambda: self.misuse(chance.choice((RUN_ALL, TRANSACT)), gone + number(1) + noise[:20], BAD_REQUEST),
+            lambda: self.misuse(chance.choice((RUN_ALL, TRANSACT)), live + number(0) + b"\0", BAD_REQUEST),
+            lambda: self.misuse(TRANSACT, gone + number(0), NO_SESSION),
+            lambda: self.misuse(RUN_ALL, live + number(1) + number(10**9) + number(0), NO_STATEMENT, NO_SESSION),
             lambda: self.misuse(OPEN_SESSION, chance.choice(NO_NAMES), BAD_NAME),
             lambda: self.misuse(chance.choice((CLOSE_SESSION, FORGET, BEGIN, COMMIT)), noise[:7], BAD_REQUEST),
             lambda: self.misuse(RUN, live + live + noise[:12] + b"\x77", BAD_REQUEST, NO_STATEMENT),
@@ -473,8 +549,10 @@ class Run:
             return self.forget()
         if pick < 0.16:
             return self.foul()
-        if pick < (0.32 if any(self.in_transaction.values()) else 0.9):
+        if pick < (0.32 if any(self.in_transaction.values()) else 0.8):
             return self.bound()
+        if pick > 0.88:
+            return self.several()
         return self.run_statement() if pick < 0.8 else self.execute()
 
     def report(self):

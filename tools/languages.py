@@ -261,6 +261,9 @@ def ways(name="README.md"):
         end = re.search(r"`([\w./]+)`(?:, run by\s`([^`]+)`)?:\n$", label)
         if end and end.group(2):
             beside = "".join(re.findall(r"-- (.+\n)", text)) if end.group(1).endswith(".sql") else said
+            of_runs = re.search(r"^print\(.*\)  # (.+\n)", text, re.MULTILINE)  # what each run of a script prints
+            if of_runs:
+                beside = of_runs.group(1).replace(", ", "\n")
             found[end.group(1)] = Way(shared | {end.group(1): text}, end.group(2), beside)
         elif end:
             shared[end.group(1)] = text
@@ -331,7 +334,8 @@ def page(known, folder, without_rust):
     """Runs each way that the pages show."""
     (folder / "skewguard").symlink_to(TOP)
     found, language = ways(), ways("docs/LANGUAGE.md")
-    if list(found) != ["script.sql", "first.c", "first.py", "src/main.rs"] or list(language) != ["script.sql"]:
+    shown = ["script.sql", "first.c", "first.py", "src/main.rs", "books.py"]
+    if list(found) != shown or list(language) != ["script.sql"]:
         sys.exit(f"README.md shows {', '.join(found)}, and docs/LANGUAGE.md {', '.join(language)}")
     if without_rust:
         del found["src/main.rs"]

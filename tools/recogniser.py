@@ -33,7 +33,7 @@ attrs = | when | when defer | defer | defer when
 when = 'INITIALLY' mode
 mode = 'DEFERRED' | 'IMMEDIATE'
 defer = 'DEFERRABLE' | 'NOT' 'DEFERRABLE'
-event = 'BEGIN' | 'COMMIT' work | 'ROLLBACK' work | stmt
+event = 'BEGIN' | 'BEGIN' 'READ' 'ONLY' | 'COMMIT' work | 'ROLLBACK' work | stmt
 work = | 'WORK'
 stmt = insert | 'UPDATE' name 'SET' set sets where | 'DELETE' 'FROM' name where | 'SELECT' selected 'FROM' name where
 stmt = 'SET' 'CONSTRAINTS' 'ALL' mode | 'SET' 'CONSTRAINTS' names mode | 'VERDICT' name
@@ -80,7 +80,16 @@ KINDS = {'name', 'number', 'width', 'text'}
 START = {'S': 'script', 'D': 'defs', 'E': 'event'}
 FAULT = re.compile(r'(?:DEFS|SCRIPT): REFUSED \d+ - SYNTAX (\d+)$|.* TOO DEEP .*$', re.MULTILINE)
 
-TOKEN = re.compile(r"(?P<word>[A-Za-z][A-Za-z0-9_]*)|(?P<number>[0-9]+)|(?P<text>'(?:[ -&(-~]|'')*')|(?P<mark><>|<=|>=|[(),;:.*+\-=<>])")
+TOKEN = re.compile(r"(?P<word>[A-Za-z][A-Za-z0-9_]*)|(?P<number>[0-9]+)|(?P<text>'(?:[^\0-\x1f'\x7f]|'')*')|(?P<mark><>|<=|>=|[(),;:.*+\-=<>])")
+
+
+def is_utf8(text):
+    """Whether the bytes of a text, each of which is one character here, spell characters."""
+    try:
+        text.encode('latin-1').decode('utf-8')
+    except UnicodeDecodeError:
+        return False
+    return True
 
 
 def tokens(text):
@@ -93,7 +102,7 @@ def tokens(text):
         m = TOKEN.match(text, at)
         if m is None or len(m.group('word') or '') > 128 or (m.group('number') and int(m.group('number')) > 10 ** 15):
             return found + [(at, set())]
-        if m.group('text') and m.end() < len(text) and text[m.end()] == "'":
+        if m.group('text') and (text[m.end():m.end() + 1] == "'" or not is_utf8(m.group('text'))):
             return found + [(at, set())]
         word, number = (m.group('word') or '').upper(), m.group('number')
         if word:
@@ -154,12 +163,26 @@ def lowest(ways):
     return min(ways, key=lambda way: max((HEIGHT.get(s, 0) for s in way), default=0))
 
 
+def bytes_of(text):
+    """A text, with each byte of it as one character."""
+    return text.encode('utf-8').decode('latin-1')
+
+
+SPELLINGS = {
+    'name': ['A', 'Bc', 'T_1'], 'number': ['0', '7', '1000000000000000'], 'width': ['1', '255'],
+    'text': ["''", "'x'", "'it''s'", bytes_of("'Žofie'"), bytes_of("'\x80\u2028\uffff\U0001d11e'")],
+}
+OTHERS = sorted(RESERVED) + ['(', ')', ',', ';', '*', '-', '=', 'A', '5', '300', "'x", '?', '1000000000000001']
+# Texts that are none: a byte alone, a longer form, half of a pair, one above U+10FFFF, one cut short, and controls.
+ILL_FORMED = ["'\x80'", "'\xc0\xaf'", "'\xed\xa0\x80'", "'\xf4\x90\x80\x80'", "'\xe2\x82'", "'\x7f'", "'\t'"]
+
+
 def made(rng, symbol, depth=0):
     """A random text of the symbol, as a list of spellings."""
     if symbol.startswith("'"):
         return [symbol[1:-1]]
     if symbol in KINDS:
-        return [rng.choice({'name': ['A', 'Bc', 'T_1'], 'number': ['0', '7', '1000000000000000'], 'width': ['1', '255'], 'text': ["''", "'x'", "'it''s'"]}[symbol])]
+        return [rng.choice(SPELLINGS[symbol])]
     ways = GRAMMAR[symbol]
     way = rng.choice(ways if depth < 9 else [lowest(ways)])
     return [spelling for part in way for spelling in made(rng, part, depth + 1)]
@@ -168,7 +191,7 @@ def made(rng, symbol, depth=0):
 def spoilt(rng, spellings):
     spellings = list(spellings)
     for _ in range(rng.choice([0, 1, 1, 2])):
-        i, other = rng.randrange(len(spellings) + 1), rng.choice(sorted(RESERVED) + ['(', ')', ',', ';', '*', '-', '=', 'A', '5', '300', "'x", '?', '1000000000000001'])
+        i, other = rng.randrange(len(spellings) + 1), rng.choice(OTHERS + ILL_FORMED)
         how = rng.randrange(4)
         if how == 0:
             spellings[i:i + 1] = []

@@ -24,7 +24,8 @@ CREATE ASSERTION POSITIVE CHECK (NOT EXISTS (SELECT * FROM T WHERE A < 0));
 INSERT INTO T VALUES (1, 5);
 """
 SCRIPT = "ALICE: BEGIN;\nALICE: INSERT INTO T VALUES (2, -5);\nALICE: COMMIT;\n"
-SUBCOMMANDS = ("replay", "threads", "check", "explain", "picture", "postgresql")
+SUBCOMMANDS = ("replay", "threads", "check", "explain", "picture", "postgresql", "sqlite")
+WITHOUT_SCRIPT = ("postgresql", "sqlite")
 READING = re.compile(rb"(\rreading, [0-9]+ s\x1b\[K){2}")
 WIPED = re.compile(rb"(\rreading, [0-9]+ s\x1b\[K){2,}(\r[a-z ]+( [0-9]+ MB)?, [0-9]+ s\x1b\[K)*\r\x1b\[K")
 PATIENCE = 60
@@ -38,7 +39,7 @@ class Run:
         self.path = os.path.join(folder, f"{name}-{len(defs)}-{len(on)}.sql")
         os.mkfifo(self.path)
         words = [program, name, self.path]
-        if name != "postgresql":
+        if name not in WITHOUT_SCRIPT:
             words.append(os.path.join(folder, "script.sql"))
         self.shown, self.files = b"", [tempfile.TemporaryFile(), tempfile.TemporaryFile()]
         self.terminal, end = pty.openpty()

@@ -6,10 +6,11 @@
 FOLDER is what tools/c_library.py made; without it, it is made of the proved archive. The header is compiled as C99 and
 as C++11 without a warning, and so are plain loops of rows (tests/loop.c), at each level of optimisation and by what
 pkg-config says of the package, where there is pkg-config. Every call and every status (tests/calls.c), threads with
-little stack and with a skewguard each (tests/threads.c), and the worked examples through the library against their
-reports (tests/replay.c), are run plain and under AddressSanitizer, which also looks for what was not given back. Then
-the examples are run with each allocation refused in turn: a call that found no memory is made once more, and the report
-has to come out the same. The last line says what passed; the status is 1 where something did not.
+little stack and with a skewguard each (tests/threads.c), a journal of which each call on its file fails in turn
+(tests/journal.c), and the worked examples through the library against their reports (tests/replay.c), are run plain and
+under AddressSanitizer, which also looks for what was not given back. Then the examples are run with each allocation
+refused in turn: a call that found no memory is made once more, and the report has to come out the same. The last line
+says what passed; the status is 1 where something did not.
 """
 import argparse
 import concurrent.futures
@@ -27,7 +28,10 @@ from harness.refusing import run_refusing, shim  # noqa: E402
 
 HERE = pathlib.Path(__file__).resolve().parent
 EXAMPLES = "on-call", "ledger", "booking"
-PROGRAMS = "calls", "threads", "replay"
+PROGRAMS = "calls", "threads", "journal", "replay"
+
+# The calls on the file of a journal, each of which a test lets fail.
+WRAPPED = tuple(f"-Wl,--wrap={name}" for name in ("pwrite", "fdatasync", "fsync", "link", "unlink"))
 SANITIZERS = "-fsanitize=address,undefined", "-fno-sanitize-recover=all"
 WARNINGS = "-Wall", "-Wextra", "-pedantic", "-Werror"
 LANGUAGES = ("-x", "c", "-std=c99"), ("-x", "c++", "-std=c++11")
@@ -104,6 +108,7 @@ def compile_by_package(tests, library, work):
 
 def build(name, library, out, *flags):
     """A test, linked with the static library."""
+    flags += WRAPPED if name == "journal" else ()
     words = ("clang", "-std=c99", "-g", "-pthread", *flags, *WARNINGS, "-I", library, "-I", HERE / "tests")
     made = run(*words, HERE / "tests" / f"{name}.c", library / "libskewguard.a", "-o", out)
     if made.returncode:
@@ -117,9 +122,10 @@ def example(name):
     return folder / "defs.sql", folder / "script.sql", (folder / "expected.txt").read_text()
 
 
-def run_programs(tests, kind, calls, threads, replay):
-    """Each program, and each example."""
-    for program in (calls, threads):
+def run_programs(tests, kind, *programs):
+    """Each program, and each example by the last."""
+    *others, replay = programs
+    for program in others:
         given = run(program)
         tests.note(f"{program.name}, {kind}", given.returncode == 0, given.stdout + given.stderr)
     for name in EXAMPLES:

@@ -42,7 +42,7 @@ extern "C" {
 #endif
 
 /*
- * The library itself: three functions, for this header and for bindings of other languages. All else here is inline.
+ * The library itself, for this header and for bindings of other languages. All else here is inline.
  *
  * What goes in and comes out is bytes. A *number* is eight bytes, the lowest first, and a negative one in two's
  * complement; a *text* is the number of its bytes, and these; a *value* is one byte for its kind and then what it
@@ -62,15 +62,22 @@ extern "C" {
  * | 8 BEGIN, 9 BEGIN READ ONLY, 10 COMMIT, 11 ROLLBACK | number of the session | answer |
  * | 12 the closing part of a report | | text |
  * | 13 checkpoint | the rules to create as a text, how many names to drop, and each as a value | text |
+ * | 14 statements in turn, up to the first that is not done | number of the session, how many statements, | several |
+ * | | and of each its number, how many values, and these | |
+ * | 15 a transaction: BEGIN; where that is done, what 14 does, and COMMIT; or ROLLBACK, where a statement is | | |
+ * | not done, or COMMIT finds no memory or is not kept | as 14 | several |
+ * | 16 the beginning of a journal's file for the committed tables, by the text of their definitions | the text's bytes |
+ * | | | image |
  *
- * The status of 0 and 1 is that of the call whose response it was.
+ * The status of 0 and 1 is that of the call whose response it was, and that of several replies the status of the first
+ * that tells of something not done. Of several, 1 gives several: the line of each.
  *
- * A name, and the texts of 4 and 7, are all bytes that are left of their request, with no length in front. The request
- * of skewguard_library_open is the greatest number of commits, and the bytes of the definitions; what became of them is
- * the reply to operation 0, and where they were refused every other call returns SKEWGUARD_CLOSED. It returns 0, or 2
- * without memory, and then there is nothing to close. No pointer may be null, also beside a length of 0, and the bytes
- * of the request and of the reply may not overlap. A reply that is longer than capacity is there as far as it fits, and
- * *reply_length is its whole length.
+ * A name, and the texts of 4 and 7, are all bytes that are left of their request, with no length in front. Either text
+ * is one statement, whose final `;` may stand or not. The request of skewguard_library_open is the greatest number of
+ * commits, and the bytes of the definitions; what became of them is the reply to operation 0, and where they were
+ * refused every other call returns SKEWGUARD_CLOSED. It returns 0, or 2 without memory, and then there is nothing to
+ * close. No pointer may be null, also beside a length of 0, and the bytes of the request and of the reply may not
+ * overlap. A reply that is longer than capacity is there as far as it fits, and *reply_length is its whole length.
  *
  * The first byte of a reply is its kind (skewguard_kind), and behind it stands:
  *
@@ -88,6 +95,9 @@ extern "C" {
  * | refused | number, SQLSTATE as a text of five bytes or none, name as a text, root or key as a value, five numbers |
  * | | (commit in the way; reader, pivot, writer, 0 for this transaction; offset in the text), the line as a text |
  * | misused | number of the parameter, from 1; or how many values are wanted |
+ * | several | how many replies, and each of them, from its kind on |
+ * | unrestored | number of the reason (skewguard_journal_fault), of the commit, and of the byte of the file |
+ * | image | the bytes, as a text |
  */
 #define SKEWGUARD_LAYOUT 1
 
@@ -96,8 +106,62 @@ int32_t skewguard_library_call(void *library, uint32_t operation, const unsigned
                                unsigned char *reply, size_t capacity, size_t *reply_length);
 void skewguard_library_close(void *library);
 
+/*
+ * Why a text was refused, as `skewguard check` draws it. The request is the number of what the text was to be
+ * (skewguard_role), the number of the fault, the definitions as a text, and the bytes of the text. 0, and the drawing
+ * is in reply as far as it fits; 2 without memory; 4 where the request is none. *reply_length is its whole length, 0
+ * where no more is known.
+ */
+int32_t skewguard_library_draw(const unsigned char *request, size_t length, unsigned char *reply, size_t capacity,
+                               size_t *reply_length);
+
+/*
+ * A library that keeps a journal hands out the calls on its file, since it reaches none by itself. file is all that
+ * the file holds, and that is on the disk. What becomes of it is the reply to operation 0: opened, refused, or
+ * unrestored. Behind it and behind each call take_calls hands out what has to be written and synced before the reply
+ * is handed on, for all commits that have counted: 0, and the calls are in buffer, *length bytes of them, which may be
+ * none; 1, and they are longer than capacity; or 2, and there was no memory for them, and no commit is kept any more.
+ * The bytes of a call: 1, its place in the file, how many bytes, and these; 2, a place, and how many zeros to write
+ * there; 3, all that was written has to be on the disk before what comes behind. The functions below them do all of
+ * that.
+ */
+int32_t skewguard_library_open_journal(const unsigned char *request, size_t length, const unsigned char *file,
+                                       size_t file_length, void **library);
+int32_t skewguard_library_take_calls(void *library, unsigned char *buffer, size_t capacity, size_t *length);
+
+/*
+ * The library over the file of a journal, which is made where there is none, and locked. The request is that of
+ * skewguard_library_open; calls are those of skewguard_library_call, and a reply is there only once all that it tells
+ * of is on the disk. SKEWGUARD_IO_ERROR, and *error is the errno: EWOULDBLOCK where another process has the file, ELOOP
+ * a link, EISDIR a folder, ENOTSUP what is no regular file. After a call that failed nothing is answered any more but
+ * SKEWGUARD_IO_ERROR, with the kind misused and the errno: open the file again.
+ */
+int32_t skewguard_journal_open(const char *path, const unsigned char *request, size_t length, void **journal,
+                               int *error);
+int32_t skewguard_journal_call(void *journal, uint32_t operation, const unsigned char *request, size_t length,
+                               unsigned char *reply, size_t capacity, size_t *reply_length);
+void skewguard_journal_close(void *journal);
+
+/*
+ * The same for threads that share syncs: the steps of skewguard_journal_call, each under a lock of the caller's but
+ * make, which one thread at a time runs without it. start is the call of the library, whose reply may not be handed on
+ * yet. take takes over the calls on the file that wait, of all commits that have counted; 0 where there are none. make
+ * makes them, and gives 0 or an errno; made notes that, and gives the first errno there was. Behind it each reply of a
+ * call that was started before take may be handed on, or, where made gives an errno, none may: then failure writes the
+ * reply that says so, and gives its length, 0 where it does not fit.
+ */
+int32_t skewguard_journal_start(void *journal, uint32_t operation, const unsigned char *request, size_t length,
+                                unsigned char *reply, size_t capacity, size_t *reply_length);
+int skewguard_journal_take(void *journal);
+int skewguard_journal_make(const void *journal);
+int skewguard_journal_made(void *journal, int error);
+size_t skewguard_journal_failure(int error, unsigned char *reply, size_t capacity);
+
 /* What became of a call. */
 typedef enum skewguard_status {
+    /* A call on the journal's file failed, or the file can't be opened: reply.number is the errno. Whether a COMMIT
+     * that is told so was kept is known once the file is opened again; no call is answered before. */
+    SKEWGUARD_IO_ERROR = -16,
     SKEWGUARD_DONE = 0,
     /* The event, the text or the definitions were refused: reply.refusal says why. A COMMIT that was refused with 10,
      * 12, 13 or 17 has ended its transaction. After any other refusal the tables are as before; but what a refused
@@ -115,15 +179,22 @@ typedef enum skewguard_status {
     SKEWGUARD_NO_STATEMENT = 6,
     /* The statement has another number of parameters: reply.number says how many. */
     SKEWGUARD_WRONG_COUNT = 7,
-    /* A value that no statement takes: NULL where none may stand, a number beyond 10^15, a text with a byte outside of
-     * 0x20 to 0x7E. reply.number is the parameter, from 1. */
+    /* A value that no statement takes: NULL where none may stand, a number beyond 10^15, a text that is not well-formed
+     * UTF-8 or has a control character (a byte below 0x20, or 0x7F). reply.number is the parameter, from 1. */
     SKEWGUARD_BAD_VALUE = 8,
     /* No name: a letter, then letters, digits and '_', 128 bytes at most, and no reserved word. */
     SKEWGUARD_BAD_NAME = 9,
     /* A session of this name is open. */
     SKEWGUARD_NAME_TAKEN = 10,
     /* The skewguard is closed, or its definitions were refused. */
-    SKEWGUARD_CLOSED = 11
+    SKEWGUARD_CLOSED = 11,
+    /* A COMMIT that is accepted and could not be kept in the journal (58030): its transaction is open, nothing has
+     * changed. */
+    SKEWGUARD_NOT_KEPT = 12,
+    /* A checkpoint of what keeps a journal: `skewguard checkpoint` changes the rules of one that is closed. */
+    SKEWGUARD_JOURNALED = 13,
+    /* The file was not opened as a journal: reply.journal_fault says why. */
+    SKEWGUARD_UNRESTORED = 14
 } skewguard_status;
 
 /* What a reply is of. */
@@ -144,8 +215,31 @@ typedef enum skewguard_kind {
     SKEWGUARD_VERDICT = 13,
     SKEWGUARD_TEXT = 14,
     SKEWGUARD_REFUSAL = 15,
-    SKEWGUARD_MISUSED = 16
+    SKEWGUARD_MISUSED = 16,
+    /* Only in bytes: a reply that was read is one of the several. */
+    SKEWGUARD_SEVERAL = 17,
+    SKEWGUARD_JOURNAL_FAULT = 18,
+    SKEWGUARD_IMAGE = 19
 } skewguard_kind;
+
+/* Why a file was not opened as a journal. */
+typedef enum skewguard_journal_fault {
+    /* It does not begin as one. */
+    SKEWGUARD_JOURNAL_NONE = 1,
+    /* It is of other definitions: `skewguard checkpoint` takes these for what it holds. */
+    SKEWGUARD_JOURNAL_OF_OTHERS = 2,
+    /* Commit reply.number is missing, whose line begins at byte reply.byte. */
+    SKEWGUARD_JOURNAL_DAMAGED = 3,
+    /* Commit reply.number is none of these tables. */
+    SKEWGUARD_JOURNAL_NOT_DUE = 4
+} skewguard_journal_fault;
+
+/* What a text was to be that was refused. */
+typedef enum skewguard_role {
+    SKEWGUARD_DEFINITIONS = 0,
+    SKEWGUARD_RULES = 1,
+    SKEWGUARD_STATEMENT_TEXT = 2
+} skewguard_role;
 
 typedef enum skewguard_value_kind {
     SKEWGUARD_NULL = 0,
@@ -223,7 +317,7 @@ typedef struct skewguard_reply {
     skewguard_kind kind;
     /* Of opened: SKEWGUARD_LAYOUT; of begun: how many commits the snapshot holds; of committed: the number of the
      * commit; of inserted, updated and deleted: how many rows; of session and statement: which; of misused: as the
-     * status says. */
+     * status says; of a journal that was not opened: as its fault says. */
     uint64_t number;
     /* Of statement: how many parameters it has. */
     uint64_t parameters;
@@ -232,16 +326,28 @@ typedef struct skewguard_reply {
     uint64_t columns, rows;
     skewguard_text text;
     skewguard_refusal refusal;
+    skewguard_journal_fault journal_fault;
+    uint64_t byte;
+    /* Of a call that makes several events: how many replies there are, and the place of this one, from 0. */
+    uint64_t replies, place;
 } skewguard_reply;
+
+/* A prepared statement with a value for each of its parameters. */
+typedef struct skewguard_step {
+    uint64_t statement;
+    const skewguard_value *values;
+    size_t count;
+} skewguard_step;
 
 /* A database with its sessions. Its members but reply are the functions' own. Zero bytes are a closed one. */
 typedef struct skewguard {
-    void *library;
+    /* One of these is open, or none. */
+    void *library, *journal;
     unsigned char *reply_bytes, *request_bytes;
     size_t reply_length, reply_capacity, request_length, request_capacity;
     /* In reply_bytes: where the names of the columns, and the next row, begin. */
-    size_t names_at, next_row_at;
-    uint64_t rows_left;
+    size_t names_at, next_row_at, next_reply_at;
+    uint64_t rows_left, replies, replies_left;
     skewguard_reply reply;
 } skewguard;
 
@@ -257,6 +363,19 @@ typedef struct skewguard {
  */
 static inline skewguard_status skewguard_open(skewguard *db, const char *definitions, size_t length,
                                               uint64_t most_commits);
+
+/*
+ * The same with a journal in the file of this name: what is committed outlives the process, and a crash at any moment
+ * loses no commit that was answered. Where there is no file it is made, with the rows of the definitions; else the
+ * tables are those that it holds, and the rows of the definitions are passed over. No other process opens it meanwhile.
+ * Each COMMIT waits for the disk. A checkpoint is refused (JOURNALED).
+ *
+ * As skewguard_open; IO_ERROR with an errno in reply.number, and nothing is open: EWOULDBLOCK where another process has
+ * the file, ELOOP where it is a link, EISDIR a folder, ENOTSUP no regular file; UNRESTORED with reply.journal_fault,
+ * and the file is as it was; REFUSED with a line that begins with JOURNAL where an assertion is false on its rows.
+ */
+static inline skewguard_status skewguard_open_journal(skewguard *db, const char *path, const char *definitions,
+                                                      size_t length, uint64_t most_commits);
 
 /* Gives all memory back; open transactions are rolled back. A closed one, and null, are left as they are. */
 static inline void skewguard_close(skewguard *db);
@@ -280,7 +399,8 @@ static inline skewguard_status skewguard_open_session(skewguard *db, const char 
 static inline skewguard_status skewguard_close_session(skewguard *db, uint64_t session);
 
 /*
- * Prepares a statement or an event: one text of the language, with no semicolon, in which `?` may stand for a constant.
+ * Prepares a statement or an event: one text of the language, in which `?` may stand for a constant. Its final `;` may
+ * stand or not.
  * The number that is left in *statement was never given before, and reply.parameters says how many there are.
  *
  * REFUSED with 2 or 19: the text, with reply.refusal.offset. NO_MEMORY, REPLY_WAITS, CLOSED, BAD_REQUEST.
@@ -301,7 +421,8 @@ static inline skewguard_status skewguard_forget(skewguard *db, uint64_t statemen
 static inline skewguard_status skewguard_run(skewguard *db, uint64_t session, uint64_t statement,
                                              const skewguard_value *values, size_t count);
 
-/* Runs a text that has no parameters. REFUSED by the engine, or with 2 or 19 the text; else as skewguard_run. */
+/* Runs a text that has no parameters; its final `;` may stand or not. REFUSED by the engine, or with 2 or 19 the text;
+ * else as skewguard_run. */
 static inline skewguard_status skewguard_execute(skewguard *db, uint64_t session, const char *text, size_t length);
 
 /* BEGIN, BEGIN READ ONLY, COMMIT and ROLLBACK. REFUSED by the engine; NO_SESSION, NO_MEMORY, REPLY_WAITS, CLOSED,
@@ -310,6 +431,32 @@ static inline skewguard_status skewguard_begin(skewguard *db, uint64_t session);
 static inline skewguard_status skewguard_begin_read_only(skewguard *db, uint64_t session);
 static inline skewguard_status skewguard_commit(skewguard *db, uint64_t session);
 static inline skewguard_status skewguard_rollback(skewguard *db, uint64_t session);
+
+/* ---- several events in one call */
+
+/*
+ * Runs a prepared statement `rows` times, each time with the next `count` of the values. Each is answered as by
+ * skewguard_run, in turn, and the first that is not done is the last that is run. What was done before it stays in the
+ * transaction.
+ *
+ * The status, and db.reply, are those of the one that was not done, with its place from 0 in reply.place; else of the
+ * last. skewguard_next_reply gives all of them. NO_MEMORY with reply.replies 0, and none was run. BAD_REQUEST, CLOSED;
+ * REPLY_WAITS, and skewguard_again says how many were.
+ */
+static inline skewguard_status skewguard_run_all(skewguard *db, uint64_t session, uint64_t statement,
+                                                 const skewguard_value *values, size_t count, size_t rows);
+
+/*
+ * A whole transaction: BEGIN, prepared statements with their values, and COMMIT, each answered as by a call of its own.
+ * Where a statement is not done, none is run behind it, and the transaction is rolled back; where BEGIN is not done,
+ * nothing is done behind it. So no transaction is open behind this call, unless one was before.
+ *
+ * The status, and db.reply, are those of the event that was not done; else of COMMIT, with the commit's number. Of the
+ * replies, from 0, the first is that of BEGIN, and the next those of the statements: reply.place says which this is.
+ * NO_MEMORY with reply.replies 0, and nothing was done. NO_SESSION, BAD_REQUEST, CLOSED; REPLY_WAITS.
+ */
+static inline skewguard_status skewguard_run_transaction(skewguard *db, uint64_t session, const skewguard_step *steps,
+                                                         size_t count);
 
 /* ---- what is left of the run */
 
@@ -339,6 +486,11 @@ static inline skewguard_status skewguard_again(skewguard *db);
  * skewguard_again then gives the reply itself again. NO_MEMORY, REPLY_WAITS, CLOSED, BAD_REQUEST. */
 static inline skewguard_status skewguard_line(skewguard *db);
 
+/* The next of the replies of a call that made several events, in db.reply: the first, when this is called for the first
+ * time behind the call. 1 where there was one; 0 behind the last, and where the call was for one event. Of a reply of
+ * rows these are then read by skewguard_next_row. */
+static inline int skewguard_next_reply(skewguard *db);
+
 /* The next row of a reply of rows, in cells, which has room for `room` values; those behind its last column are NULL. 1
  * where there was one; 0 at the end, and where a row has more values than there is room for. */
 static inline int skewguard_next_row(skewguard *db, skewguard_value *cells, size_t room);
@@ -347,6 +499,15 @@ static inline int skewguard_next_row(skewguard *db, skewguard_value *cells, size
 static inline skewguard_text skewguard_column(const skewguard *db, uint64_t place);
 
 /* ---- what is said of a status and of a fault */
+
+/*
+ * Why a text was refused, as `skewguard check` shows it: the line, carets under what is wrong, and what may stand there
+ * or how else to say it, in reply.text; empty where the text has no such fault, as where the rows or others were in the
+ * way. fault is the refusal's number, definitions those that db was opened with (of the definitions themselves, null),
+ * text what was refused. db may be closed. NO_MEMORY, BAD_REQUEST.
+ */
+static inline skewguard_status skewguard_draw(skewguard *db, skewguard_role role, int fault, const char *definitions,
+                                              size_t definitions_length, const char *text, size_t length);
 
 /* What a status, or a fault by its number, means, in a few words; never null. */
 static inline const char *skewguard_status_text(skewguard_status status);
@@ -377,7 +538,10 @@ enum skewguard_operation {
     SKEWGUARD_DO_COMMIT = 10,
     SKEWGUARD_DO_ROLLBACK = 11,
     SKEWGUARD_DO_REPORT = 12,
-    SKEWGUARD_DO_CHECKPOINT = 13
+    SKEWGUARD_DO_CHECKPOINT = 13,
+    SKEWGUARD_DO_RUN_ALL = 14,
+    SKEWGUARD_DO_TRANSACT = 15,
+    SKEWGUARD_DO_IMAGE = 16
 };
 
 static inline skewguard_value skewguard_null(void)
@@ -409,6 +573,8 @@ static inline skewguard_value skewguard_characters(const char *bytes, size_t len
 static inline const char *skewguard_status_text(skewguard_status status)
 {
     switch (status) {
+    case SKEWGUARD_IO_ERROR:
+        return "a call on the journal's file failed: open it again";
     case SKEWGUARD_DONE:
         return "done";
     case SKEWGUARD_REFUSED:
@@ -433,6 +599,12 @@ static inline const char *skewguard_status_text(skewguard_status status)
         return "a session of this name is open";
     case SKEWGUARD_CLOSED:
         return "the database is closed, or its definitions were refused";
+    case SKEWGUARD_NOT_KEPT:
+        return "the commit could not be kept in the journal: its transaction is open";
+    case SKEWGUARD_JOURNALED:
+        return "a database that keeps a journal makes no checkpoint";
+    case SKEWGUARD_UNRESTORED:
+        return "the file was not opened as a journal";
     }
     return "another status";
 }
@@ -595,14 +767,15 @@ static inline void skewguard_read_rows(skewguard *db, skewguard_reader *reader)
 static inline void skewguard_clear_reply(skewguard *db)
 {
     memset(&db->reply, 0, sizeof db->reply);
-    db->rows_left = 0;
+    db->rows_left = db->replies = db->replies_left = 0;
 }
 
-static inline void skewguard_read_reply(skewguard *db)
+/* Reads one reply, whose kind is not that of several, as far as its rows. */
+static inline void skewguard_read_one(skewguard *db, skewguard_reader *reader)
 {
-    skewguard_reader reader = skewguard_read_from(db, 0);
-    skewguard_clear_reply(db);
-    db->reply.kind = (skewguard_kind)skewguard_read_byte(&reader);
+    memset(&db->reply, 0, sizeof db->reply);
+    db->rows_left = 0;
+    db->reply.kind = (skewguard_kind)skewguard_read_byte(reader);
     switch (db->reply.kind) {
     case SKEWGUARD_OPENED:
     case SKEWGUARD_SESSION:
@@ -612,30 +785,91 @@ static inline void skewguard_read_reply(skewguard *db)
     case SKEWGUARD_UPDATED:
     case SKEWGUARD_DELETED:
     case SKEWGUARD_MISUSED:
-        db->reply.number = skewguard_read_number(&reader);
+        db->reply.number = skewguard_read_number(reader);
         break;
     case SKEWGUARD_STATEMENT:
-        db->reply.number = skewguard_read_number(&reader);
-        db->reply.parameters = skewguard_read_number(&reader);
+        db->reply.number = skewguard_read_number(reader);
+        db->reply.parameters = skewguard_read_number(reader);
         break;
     case SKEWGUARD_ROWS:
-        skewguard_read_rows(db, &reader);
+        skewguard_read_rows(db, reader);
         break;
     case SKEWGUARD_VERDICT:
-        db->reply.verdict = (skewguard_truth)skewguard_read_number(&reader);
+        db->reply.verdict = (skewguard_truth)skewguard_read_number(reader);
         break;
     case SKEWGUARD_TEXT:
-        db->reply.text = skewguard_read_text(&reader);
+    case SKEWGUARD_IMAGE:
+        db->reply.text = skewguard_read_text(reader);
+        break;
+    case SKEWGUARD_JOURNAL_FAULT:
+        db->reply.journal_fault = (skewguard_journal_fault)skewguard_read_number(reader);
+        db->reply.number = skewguard_read_number(reader);
+        db->reply.byte = skewguard_read_number(reader);
         break;
     case SKEWGUARD_REFUSAL:
-        skewguard_read_refusal(&reader, &db->reply.refusal);
+        skewguard_read_refusal(reader, &db->reply.refusal);
         break;
     case SKEWGUARD_NOTHING:
     case SKEWGUARD_CHANGED:
     case SKEWGUARD_ROLLED_BACK:
     case SKEWGUARD_MODES_SET:
+    case SKEWGUARD_SEVERAL:
         break;
     }
+}
+
+/* Whether a reply tells of something that was done. */
+static inline int skewguard_tells_of_done(const skewguard_reply *reply)
+{
+    return reply->kind != SKEWGUARD_REFUSAL && reply->kind != SKEWGUARD_MISUSED && reply->kind != SKEWGUARD_NOTHING;
+}
+
+/* Reads the next of several replies, and leaves the reader behind it. */
+static inline void skewguard_read_next(skewguard *db, skewguard_reader *reader, uint64_t place)
+{
+    uint64_t row, column;
+    skewguard_read_one(db, reader);
+    for (row = 0; row < db->reply.rows && reader->at < reader->length; row++)
+        for (column = 0; column < db->reply.columns; column++)
+            (void)skewguard_read_value(reader);
+    db->reply.replies = db->replies;
+    db->reply.place = place;
+}
+
+static inline void skewguard_read_several(skewguard *db, skewguard_reader *reader)
+{
+    uint64_t place;
+    db->replies = db->replies_left = skewguard_read_number(reader);
+    db->next_reply_at = reader->at;
+    for (place = 0; place < db->replies && reader->at < reader->length; place++) {
+        skewguard_read_next(db, reader, place);
+        if (!skewguard_tells_of_done(&db->reply))
+            return;
+    }
+}
+
+static inline void skewguard_read_reply(skewguard *db)
+{
+    skewguard_reader reader = skewguard_read_from(db, 0);
+    skewguard_clear_reply(db);
+    if (reader.length && reader.bytes[0] == SKEWGUARD_SEVERAL) {
+        reader.at = 1;
+        skewguard_read_several(db, &reader);
+    } else {
+        skewguard_read_one(db, &reader);
+    }
+}
+
+static inline int skewguard_next_reply(skewguard *db)
+{
+    skewguard_reader reader;
+    if (!db || !db->replies_left)
+        return 0;
+    reader = skewguard_read_from(db, db->next_reply_at);
+    skewguard_read_next(db, &reader, db->replies - db->replies_left);
+    db->next_reply_at = reader.at;
+    db->replies_left--;
+    return 1;
 }
 
 static inline int skewguard_next_row(skewguard *db, skewguard_value *cells, size_t room)
@@ -752,12 +986,23 @@ static inline skewguard_status skewguard_ready(skewguard *db, int arguments)
     db->request_length = 0;
     if (!arguments)
         return skewguard_give(db, SKEWGUARD_BAD_REQUEST);
-    if (!db->library)
+    if (!db->library && !db->journal)
         return skewguard_give(db, SKEWGUARD_CLOSED);
     return SKEWGUARD_DONE;
 }
 
-/* One call of the library. Should its reply have no room, it is asked for again in more. */
+/* One call of the library, by itself or over its journal. */
+static inline int32_t skewguard_call_once(skewguard *db, uint32_t operation, const unsigned char *request,
+                                          size_t length, size_t *reply_length)
+{
+    if (db->journal)
+        return skewguard_journal_call(db->journal, operation, request, length, db->reply_bytes, db->reply_capacity,
+                                      reply_length);
+    return skewguard_library_call(db->library, operation, request, length, db->reply_bytes, db->reply_capacity,
+                                  reply_length);
+}
+
+/* One call. Should its reply have no room, it is asked for again in more. */
 static inline skewguard_status skewguard_call(skewguard *db, uint32_t operation)
 {
     static const unsigned char none[1] = {0};
@@ -766,8 +1011,7 @@ static inline skewguard_status skewguard_call(skewguard *db, uint32_t operation)
     int32_t status;
     if (!skewguard_grow(&db->reply_bytes, &db->reply_capacity, 0, 512))
         return skewguard_give(db, SKEWGUARD_NO_MEMORY);
-    status = skewguard_library_call(db->library, operation, request, length, db->reply_bytes, db->reply_capacity,
-                                    &reply_length);
+    status = skewguard_call_once(db, operation, request, length, &reply_length);
     if (reply_length > db->reply_capacity) {
         if (!skewguard_grow(&db->reply_bytes, &db->reply_capacity, 0, reply_length))
             return skewguard_give(db, SKEWGUARD_REPLY_WAITS);
@@ -776,8 +1020,7 @@ static inline skewguard_status skewguard_call(skewguard *db, uint32_t operation)
             request = none;
             length = 0;
         }
-        status = skewguard_library_call(db->library, operation, request, length, db->reply_bytes, db->reply_capacity,
-                                        &reply_length);
+        status = skewguard_call_once(db, operation, request, length, &reply_length);
         if (reply_length > db->reply_capacity)
             return skewguard_give(db, SKEWGUARD_REPLY_WAITS);
     }
@@ -812,41 +1055,76 @@ static inline skewguard_status skewguard_call_with_text(skewguard *db, uint32_t 
 
 /* -- the calls */
 
+static inline void skewguard_close_library(skewguard *db)
+{
+    if (db->library)
+        skewguard_library_close(db->library);
+    if (db->journal)
+        skewguard_journal_close(db->journal);
+    db->library = db->journal = NULL;
+}
+
 static inline void skewguard_close(skewguard *db)
 {
     if (!db)
         return;
-    if (db->library)
-        skewguard_library_close(db->library);
+    skewguard_close_library(db);
     free(db->reply_bytes);
     free(db->request_bytes);
     memset(db, 0, sizeof *db);
 }
 
-static inline skewguard_status skewguard_open(skewguard *db, const char *definitions, size_t length,
-                                              uint64_t most_commits)
+/* Makes the request of definitions. */
+static inline skewguard_status skewguard_ask_to_open(skewguard *db, const char *definitions, size_t length,
+                                                     uint64_t most_commits)
 {
-    skewguard_status status;
-    if (!db)
-        return SKEWGUARD_BAD_REQUEST;
     memset(db, 0, sizeof *db);
     if (!definitions || most_commits > UINT32_MAX)
         return SKEWGUARD_BAD_REQUEST;
     if (!skewguard_add_number(db, most_commits) || !skewguard_add_bytes(db, definitions, length))
         return SKEWGUARD_NO_MEMORY;
-    if (skewguard_library_open(db->request_bytes, db->request_length, &db->library) != SKEWGUARD_DONE) {
-        db->library = NULL;
-        return SKEWGUARD_NO_MEMORY;
-    }
+    return SKEWGUARD_DONE;
+}
+
+/* What became of definitions, as the first reply of the library says. */
+static inline skewguard_status skewguard_hear_opened(skewguard *db)
+{
+    skewguard_status status;
     db->request_length = 0;
     status = skewguard_call(db, SKEWGUARD_DO_AGAIN);
     if (status == SKEWGUARD_DONE && db->reply.number != SKEWGUARD_LAYOUT)
         status = SKEWGUARD_BAD_REQUEST;
-    if (status != SKEWGUARD_DONE) {
-        skewguard_library_close(db->library);
-        db->library = NULL;
-    }
+    if (status != SKEWGUARD_DONE)
+        skewguard_close_library(db);
     return status == SKEWGUARD_REPLY_WAITS ? SKEWGUARD_NO_MEMORY : status;
+}
+
+static inline skewguard_status skewguard_open(skewguard *db, const char *definitions, size_t length,
+                                              uint64_t most_commits)
+{
+    skewguard_status status = db ? skewguard_ask_to_open(db, definitions, length, most_commits) : SKEWGUARD_BAD_REQUEST;
+    if (status != SKEWGUARD_DONE)
+        return status;
+    if (skewguard_library_open(db->request_bytes, db->request_length, &db->library) != SKEWGUARD_DONE) {
+        db->library = NULL;
+        return SKEWGUARD_NO_MEMORY;
+    }
+    return skewguard_hear_opened(db);
+}
+
+static inline skewguard_status skewguard_open_journal(skewguard *db, const char *path, const char *definitions,
+                                                      size_t length, uint64_t most_commits)
+{
+    int error = 0;
+    skewguard_status status = db ? skewguard_ask_to_open(db, definitions, length, most_commits) : SKEWGUARD_BAD_REQUEST;
+    if (status != SKEWGUARD_DONE)
+        return status;
+    if (!path)
+        return SKEWGUARD_BAD_REQUEST;
+    status = (skewguard_status)skewguard_journal_open(path, db->request_bytes, db->request_length, &db->journal,
+                                                      &error);
+    db->reply.number = (uint64_t)error;
+    return status == SKEWGUARD_DONE ? skewguard_hear_opened(db) : status;
 }
 
 static inline skewguard_status skewguard_open_session(skewguard *db, const char *name, size_t length,
@@ -870,22 +1148,81 @@ static inline skewguard_status skewguard_forget(skewguard *db, uint64_t statemen
     return skewguard_call_with_number(db, SKEWGUARD_DO_FORGET, statement);
 }
 
+/* Whether each value may be a parameter. */
+static inline int skewguard_are_parameters(const skewguard_value *values, size_t count)
+{
+    size_t place;
+    for (place = 0; place < count; place++)
+        if (!skewguard_is_parameter(&values[place]))
+            return 0;
+    return 1;
+}
+
+/* Adds how many values there are, and these. */
+static inline int skewguard_add_values(skewguard *db, const skewguard_value *values, size_t count)
+{
+    size_t place;
+    if (!skewguard_add_number(db, count))
+        return 0;
+    for (place = 0; place < count; place++)
+        if (!skewguard_add_value(db, &values[place]))
+            return 0;
+    return 1;
+}
+
+/* Adds a statement with its values. */
+static inline int skewguard_add_step(skewguard *db, uint64_t statement, const skewguard_value *values, size_t count)
+{
+    return skewguard_add_number(db, statement) && skewguard_add_values(db, values, count);
+}
+
 static inline skewguard_status skewguard_run(skewguard *db, uint64_t session, uint64_t statement,
                                              const skewguard_value *values, size_t count)
 {
-    size_t place;
     skewguard_status status = skewguard_ready(db, values || !count);
     if (status != SKEWGUARD_DONE)
         return status;
+    if (!skewguard_are_parameters(values, count))
+        return skewguard_give(db, SKEWGUARD_BAD_REQUEST);
+    if (!skewguard_add_number(db, session) || !skewguard_add_step(db, statement, values, count))
+        return skewguard_give(db, SKEWGUARD_NO_MEMORY);
+    return skewguard_call(db, SKEWGUARD_DO_RUN);
+}
+
+static inline skewguard_status skewguard_run_all(skewguard *db, uint64_t session, uint64_t statement,
+                                                 const skewguard_value *values, size_t count, size_t rows)
+{
+    size_t row;
+    skewguard_status status = skewguard_ready(db, (values || !count || !rows) && (!count || rows <= SIZE_MAX / count));
+    if (status != SKEWGUARD_DONE)
+        return status;
+    if (!skewguard_are_parameters(values, count * rows))
+        return skewguard_give(db, SKEWGUARD_BAD_REQUEST);
+    if (!skewguard_add_number(db, session) || !skewguard_add_number(db, rows))
+        return skewguard_give(db, SKEWGUARD_NO_MEMORY);
+    for (row = 0; row < rows; row++)
+        if (!skewguard_add_step(db, statement, count ? values + row * count : values, count))
+            return skewguard_give(db, SKEWGUARD_NO_MEMORY);
+    return skewguard_call(db, SKEWGUARD_DO_RUN_ALL);
+}
+
+static inline skewguard_status skewguard_run_transaction(skewguard *db, uint64_t session, const skewguard_step *steps,
+                                                         size_t count)
+{
+    size_t place;
+    skewguard_status status = skewguard_ready(db, steps || !count);
+    if (status != SKEWGUARD_DONE)
+        return status;
     for (place = 0; place < count; place++)
-        if (!skewguard_is_parameter(&values[place]))
+        if ((!steps[place].values && steps[place].count)
+            || !skewguard_are_parameters(steps[place].values, steps[place].count))
             return skewguard_give(db, SKEWGUARD_BAD_REQUEST);
-    if (!skewguard_add_number(db, session) || !skewguard_add_number(db, statement) || !skewguard_add_number(db, count))
+    if (!skewguard_add_number(db, session) || !skewguard_add_number(db, count))
         return skewguard_give(db, SKEWGUARD_NO_MEMORY);
     for (place = 0; place < count; place++)
-        if (!skewguard_add_value(db, &values[place]))
+        if (!skewguard_add_step(db, steps[place].statement, steps[place].values, steps[place].count))
             return skewguard_give(db, SKEWGUARD_NO_MEMORY);
-    return skewguard_call(db, SKEWGUARD_DO_RUN);
+    return skewguard_call(db, SKEWGUARD_DO_TRANSACT);
 }
 
 static inline skewguard_status skewguard_execute(skewguard *db, uint64_t session, const char *text, size_t length)
@@ -938,6 +1275,31 @@ static inline skewguard_status skewguard_line(skewguard *db)
 {
     skewguard_status status = skewguard_call_alone(db, SKEWGUARD_DO_LINE);
     return db && db->reply.kind == SKEWGUARD_TEXT ? SKEWGUARD_DONE : status;
+}
+
+static inline skewguard_status skewguard_draw(skewguard *db, skewguard_role role, int fault, const char *definitions,
+                                              size_t definitions_length, const char *text, size_t length)
+{
+    size_t drawn = 0;
+    int32_t status;
+    if (!db || !text || (!definitions && definitions_length))
+        return SKEWGUARD_BAD_REQUEST;
+    skewguard_clear_reply(db);
+    db->request_length = 0;
+    if (!skewguard_add_number(db, (uint64_t)role) || !skewguard_add_number(db, (uint64_t)fault)
+        || !skewguard_add_number(db, definitions_length) || !skewguard_add_bytes(db, definitions, definitions_length)
+        || !skewguard_add_bytes(db, text, length))
+        return SKEWGUARD_NO_MEMORY;
+    do {
+        if (!skewguard_grow(&db->reply_bytes, &db->reply_capacity, 0, drawn < 2048 ? 2048 : drawn))
+            return SKEWGUARD_NO_MEMORY;
+        status = skewguard_library_draw(db->request_bytes, db->request_length, db->reply_bytes, db->reply_capacity,
+                                        &drawn);
+    } while (drawn > db->reply_capacity);
+    db->reply_length = drawn;
+    db->reply.text.bytes = (const char *)db->reply_bytes;
+    db->reply.text.length = drawn;
+    return (skewguard_status)status;
 }
 
 static inline skewguard_status skewguard_checkpoint(skewguard *db, const char *created, size_t length,

@@ -7,6 +7,7 @@
     loads       tables with rules, and scripts over them
     measures    what a run takes, and figures as docs/PERFORMANCE.md has them
     servers     a PostgreSQL of one's own
+    journals    the lines of a journal's file, and what the program says of it
     crates      crates.txt and the kit
 
 Its tests: python3 -m unittest discover -s tools/harness/tests -t tools

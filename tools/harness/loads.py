@@ -1,4 +1,5 @@
 """Loads: tables with their rules and rows, and scripts over them."""
+import sqlite3
 import typing
 
 MEMBERS = 4  # rows that belong to a shift or an owner
@@ -27,6 +28,16 @@ def ledger(keys: int) -> typing.Iterator[str]:
     """Accounts and their rule."""
     yield f"{ACCT}\nCREATE ASSERTION FUNDS CHECK ({FUNDS});\n"
     yield from inserts("ACCT", accounts(keys))
+
+
+def sqlite_ledger(path: object, keys: int, synchronous: str = "FULL") -> sqlite3.Connection:
+    """The accounts in a new file of SQLite, with a write-ahead log; it keeps no rule."""
+    database = sqlite3.connect(str(path), isolation_level=None)
+    database.execute("PRAGMA journal_mode=WAL")
+    database.execute(f"PRAGMA synchronous={synchronous}")
+    database.execute(ACCT)
+    database.executemany("INSERT INTO ACCT VALUES (?, ?, ?)", accounts(keys))
+    return database
 
 
 def on_call(keys: int) -> typing.Iterator[str]:

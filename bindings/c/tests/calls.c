@@ -47,6 +47,32 @@ static void opening(void)
     skewguard_close(NULL);
 }
 
+static void drawings(void)
+{
+    skewguard db;
+    uint64_t bob;
+    const char *text = "UPDATE DUTY SET ONCALL = 0\nWHERE DOCTR = 'KIM'";
+    const char *place = "  --> statement:2:7\n   |\n 2 | WHERE DOCTR = 'KIM'\n   |       ^^^^^\n";
+    size_t length = strlen(text);
+
+    open_clinic(&db);
+    open_session(&db, "BOB", &bob);
+    skewguard_begin(&db, bob);
+    EXPECT(skewguard_execute(&db, bob, text, length) == SKEWGUARD_REFUSED && db.reply.refusal.number == 3);
+    EXPECT(skewguard_draw(&db, SKEWGUARD_STATEMENT_TEXT, 3, definitions, strlen(definitions), text, length)
+        == SKEWGUARD_DONE);
+    EXPECT(holds(db.reply.text, place));
+    EXPECT(skewguard_draw(&db, SKEWGUARD_STATEMENT_TEXT, 5, definitions, strlen(definitions), text, length)
+        == SKEWGUARD_DONE);
+    EXPECT(db.reply.text.length == 0);
+    EXPECT(skewguard_draw(&db, (skewguard_role)9, 3, NULL, 0, text, length) == SKEWGUARD_BAD_REQUEST);
+    EXPECT(skewguard_draw(&db, SKEWGUARD_STATEMENT_TEXT, 3, NULL, 5, text, length) == SKEWGUARD_BAD_REQUEST);
+    skewguard_close(&db);
+    EXPECT(skewguard_draw(&db, SKEWGUARD_DEFINITIONS, 2, NULL, 0, "CREATE TABEL", 12) == SKEWGUARD_DONE);
+    EXPECT(holds(db.reply.text, "  --> definitions:1:8\n"));
+    skewguard_close(&db);
+}
+
 static void sessions(void)
 {
     skewguard db;
@@ -152,7 +178,7 @@ static void statements(void)
     EXPECT(prepare(&db, "SELECT * FROM DUTY WHERE DOCTOR = ? OR DOCTOR IS NULL", &ask) == SKEWGUARD_DONE);
     EXPECT(prepare(&db, "SELEKT ?", &never) == SKEWGUARD_REFUSED && never == 77);
     EXPECT(is_refused(&db, 2, "", "STATEMENT: REFUSED 2 - SYNTAX 0\n"));
-    EXPECT(prepare(&db, "COMMIT;", &never) == SKEWGUARD_REFUSED && db.reply.refusal.offset == 6);
+    EXPECT(prepare(&db, "COMMIT; COMMIT", &never) == SKEWGUARD_REFUSED && db.reply.refusal.offset == 6);
     EXPECT(skewguard_prepare(&db, NULL, 0, &never) == SKEWGUARD_BAD_REQUEST);
 
     values[0] = skewguard_number(3);
@@ -186,10 +212,18 @@ static void statements(void)
     values[0] = skewguard_number(INT64_MIN);
     EXPECT(skewguard_run(&db, bob, insert, values, 4) == SKEWGUARD_BAD_VALUE && db.reply.number == 1);
     values[0] = skewguard_number(-4);
-    values[2] = skewguard_characters("L\xC3\x89", 3);
+    values[2] = skewguard_characters("L\xC3\t", 3);
+    EXPECT(skewguard_run(&db, bob, insert, values, 4) == SKEWGUARD_BAD_VALUE && db.reply.number == 3);
+    values[2] = skewguard_characters("L\xC3", 2);
     EXPECT(skewguard_run(&db, bob, insert, values, 4) == SKEWGUARD_BAD_VALUE && db.reply.number == 3);
     values[2] = skewguard_characters(NULL, 2);
     EXPECT(skewguard_run(&db, bob, insert, values, 4) == SKEWGUARD_BAD_REQUEST);
+    values[2] = skewguard_characters("\xC3\xA9\xC3\xA9\xC3\xA9\xC3\xA9\xC3\xA9"
+                                     "\xC3\xA9\xC3\xA9\xC3\xA9\xC3\xA9\xC3\xA9" "e", 21);
+    EXPECT(skewguard_run(&db, bob, insert, values, 4) == SKEWGUARD_REFUSED && db.reply.refusal.number == 9);
+    values[2].text.length = 20;
+    EXPECT(skewguard_run(&db, bob, insert, values, 4) == SKEWGUARD_DONE);
+    EXPECT(execute(&db, bob, "DELETE FROM DUTY WHERE ID = -4") == SKEWGUARD_DONE);
     values[2].kind = (skewguard_value_kind)7;
     EXPECT(skewguard_run(&db, bob, insert, values, 4) == SKEWGUARD_BAD_REQUEST);
     values[2] = skewguard_characters(NULL, 0);
@@ -417,9 +451,156 @@ static void retries(void)
     skewguard_close(&db);
 }
 
+/* A statement may end with its `;`, with nothing but comments behind that. */
+static void semicolons(void)
+{
+    static const char *const ends[] = {";", " ;", ";\n", " ; -- all of it; really", "--'\n;--'"};
+    static const char select[] = "SELECT ID FROM DUTY WHERE DOCTOR = ';'";
+    char text[128];
+    skewguard db;
+    uint64_t session, statement;
+    skewguard_value key = skewguard_number(1);
+    size_t place;
+
+    open_clinic(&db);
+    open_session(&db, "BOB", &session);
+    EXPECT(execute(&db, session, "BEGIN;") == SKEWGUARD_DONE);
+    for (place = 0; place < sizeof ends / sizeof *ends; place++) {
+        snprintf(text, sizeof text, "%s%s", select, ends[place]);
+        EXPECT(execute(&db, session, text) == SKEWGUARD_DONE && !db.reply.rows);
+        snprintf(text, sizeof text, "DELETE FROM DUTY WHERE ID = ? AND ONCALL < 0%s", ends[place]);
+        EXPECT(prepare(&db, text, &statement) == SKEWGUARD_DONE && db.reply.parameters == 1);
+        EXPECT(skewguard_run(&db, session, statement, &key, 1) == SKEWGUARD_DONE && !db.reply.number);
+    }
+    EXPECT(execute(&db, session, "SELECT ID FROM DUTY; SELECT ID FROM DUTY;") == SKEWGUARD_REFUSED);
+    EXPECT(db.reply.refusal.number == SKEWGUARD_FAULT_SYNTAX && db.reply.refusal.offset == 19);
+    EXPECT(prepare(&db, "SELECT ID FROM DUTY;; ", &statement) == SKEWGUARD_REFUSED && db.reply.refusal.offset == 19);
+    EXPECT(prepare(&db, "SELECT ID FROM DUTY; ?", &statement) == SKEWGUARD_REFUSED && db.reply.refusal.offset == 19);
+    EXPECT(prepare(&db, "SELECT ID FROM DUTY; #", &statement) == SKEWGUARD_REFUSED && db.reply.refusal.offset == 19);
+    EXPECT(execute(&db, session, "SELECT ID FROM DUTY WHERE DOCTOR = 'A;") == SKEWGUARD_REFUSED);
+    EXPECT(db.reply.refusal.offset == 35);
+    EXPECT(execute(&db, session, ";") == SKEWGUARD_REFUSED && db.reply.refusal.offset == 0);
+    EXPECT(execute(&db, session, "") == SKEWGUARD_REFUSED && db.reply.refusal.offset == 0);
+    EXPECT(execute(&db, session, "COMMIT;") == SKEWGUARD_DONE && db.reply.kind == SKEWGUARD_COMMITTED);
+    skewguard_close(&db);
+}
+
+/* One statement with many lists of values, in an open transaction. */
+static void many_rows(void)
+{
+    skewguard db;
+    skewguard_value values[3 * 4], cell;
+    uint64_t session, insert, select, place;
+
+    open_clinic(&db);
+    open_session(&db, "BOB", &session);
+    prepare(&db, "INSERT INTO DUTY VALUES (?, 7, ?, ?)", &insert);
+    prepare(&db, "SELECT ID FROM DUTY WHERE ID >= ? AND ONCALL = 0", &select);
+    for (place = 0; place < 4; place++) {
+        values[3 * place] = skewguard_number(10 + (int64_t)place);
+        values[3 * place + 1] = skewguard_characters("KIM", 3);
+        values[3 * place + 2] = skewguard_number(0);
+    }
+    EXPECT(skewguard_run_all(&db, session, insert, values, 3, 4) == SKEWGUARD_REFUSED);
+    EXPECT(is_refused(&db, 14, "", "BOB: REFUSED 14 - NO TRANSACTION\n") && !db.reply.place && db.reply.replies == 1);
+    skewguard_begin(&db, session);
+    EXPECT(!skewguard_next_reply(&db));
+    EXPECT(skewguard_run_all(&db, session, insert, values, 3, 4) == SKEWGUARD_DONE);
+    EXPECT(db.reply.kind == SKEWGUARD_INSERTED && db.reply.place == 3 && db.reply.replies == 4);
+    for (place = 0; place < 4; place++)
+        EXPECT(skewguard_next_reply(&db) && db.reply.number == 1 && db.reply.place == place);
+    EXPECT(!skewguard_next_reply(&db));
+    EXPECT(skewguard_line(&db) == SKEWGUARD_DONE && skewguard_next_reply(&db));
+    EXPECT(is_text(db.reply.text, "BOB: INSERT 1\n") && db.reply.replies == 4);
+
+    EXPECT(skewguard_run_all(&db, session, select, &values[0], 1, 1) == SKEWGUARD_DONE);
+    EXPECT(db.reply.kind == SKEWGUARD_ROWS && db.reply.rows == 4);
+    EXPECT(skewguard_next_row(&db, &cell, 1) && is_number(cell, 10));
+    EXPECT(skewguard_next_reply(&db) && skewguard_next_row(&db, &cell, 1) && is_number(cell, 10));
+    EXPECT(is_text(skewguard_column(&db, 0), "ID"));
+
+    values[0] = skewguard_number(20);
+    values[6] = skewguard_number(11);
+    EXPECT(skewguard_run_all(&db, session, insert, values, 3, 4) == SKEWGUARD_REFUSED && db.reply.place == 1);
+    EXPECT(db.reply.refusal.number == 7 && is_number(db.reply.refusal.root, 11) && db.reply.replies == 2);
+    EXPECT(skewguard_next_reply(&db) && db.reply.kind == SKEWGUARD_INSERTED);
+    EXPECT(execute(&db, session, "SELECT * FROM DUTY WHERE ID = 20") == SKEWGUARD_DONE && db.reply.rows == 1);
+    EXPECT(skewguard_run_all(&db, session, insert, values, 2, 1) == SKEWGUARD_WRONG_COUNT && db.reply.number == 3);
+    EXPECT(skewguard_run_all(&db, session, 99, values, 2, 1) == SKEWGUARD_NO_STATEMENT);
+    EXPECT(skewguard_run_all(&db, 99, insert, values, 3, 4) == SKEWGUARD_NO_SESSION && db.reply.replies == 1);
+    EXPECT(skewguard_run_all(&db, session, insert, values, 3, 0) == SKEWGUARD_DONE && !db.reply.replies);
+    EXPECT(skewguard_run_all(&db, session, insert, NULL, 3, 0) == SKEWGUARD_DONE);
+    EXPECT(skewguard_run_all(&db, session, insert, NULL, 3, 1) == SKEWGUARD_BAD_REQUEST);
+    EXPECT(skewguard_run_all(&db, session, insert, values, 3, SIZE_MAX / 2) == SKEWGUARD_BAD_REQUEST);
+    values[4] = skewguard_characters("\xC3", 1);
+    values[3] = skewguard_number(30);
+    EXPECT(skewguard_run_all(&db, session, insert, &values[3], 3, 1) == SKEWGUARD_BAD_VALUE && db.reply.number == 2);
+    values[4].kind = SKEWGUARD_ALL;
+    EXPECT(skewguard_run_all(&db, session, insert, values, 3, 4) == SKEWGUARD_BAD_REQUEST && !db.reply.replies);
+    skewguard_close(&db);
+}
+
+/* Whole transactions in one call each. */
+static void transactions(void)
+{
+    skewguard db;
+    uint64_t bob, eve, leave, select, commit;
+    skewguard_value one = skewguard_number(1), two = skewguard_number(2);
+    skewguard_step steps[2], end;
+
+    open_clinic(&db);
+    open_session(&db, "BOB", &bob);
+    open_session(&db, "EVE", &eve);
+    prepare(&db, "UPDATE DUTY SET ONCALL = 0 WHERE ID = ?;", &leave);
+    prepare(&db, "SELECT DOCTOR FROM DUTY WHERE ID = ?", &select);
+    prepare(&db, "COMMIT", &commit);
+    steps[0].statement = select, steps[0].values = &two, steps[0].count = 1;
+    steps[1].statement = leave, steps[1].values = &one, steps[1].count = 1;
+    EXPECT(skewguard_run_transaction(&db, bob, steps, 2) == SKEWGUARD_DONE);
+    EXPECT(db.reply.kind == SKEWGUARD_COMMITTED && db.reply.number == 1 && db.reply.place == 3 && db.reply.replies == 4);
+    EXPECT(skewguard_next_reply(&db) && db.reply.kind == SKEWGUARD_BEGUN && !db.reply.number);
+    EXPECT(skewguard_next_reply(&db) && db.reply.kind == SKEWGUARD_ROWS && is_text(skewguard_column(&db, 0), "DOCTOR"));
+    EXPECT(skewguard_next_reply(&db) && db.reply.kind == SKEWGUARD_UPDATED && db.reply.number == 1);
+    EXPECT(skewguard_next_reply(&db) && db.reply.kind == SKEWGUARD_COMMITTED && !skewguard_next_reply(&db));
+    EXPECT(skewguard_again(&db) == SKEWGUARD_DONE && db.reply.kind == SKEWGUARD_COMMITTED);
+    EXPECT(skewguard_line(&db) == SKEWGUARD_DONE && is_text(db.reply.text, "BOB: COMMIT 1\n"));
+
+    steps[1].values = &two;
+    EXPECT(skewguard_run_transaction(&db, bob, steps, 2) == SKEWGUARD_REFUSED && db.reply.place == 2);
+    EXPECT(is_refused(&db, 10, "23000", "BOB: REFUSED 10 23000 COVERED 7\n") && db.reply.replies == 4);
+    while (skewguard_next_reply(&db))
+        continue;
+    EXPECT(db.reply.kind == SKEWGUARD_ROLLED_BACK && db.reply.place == 3);
+    EXPECT(skewguard_rollback(&db, bob) == SKEWGUARD_REFUSED && db.reply.refusal.number == 14);
+
+    skewguard_begin(&db, eve);
+    EXPECT(skewguard_run_transaction(&db, eve, steps, 1) == SKEWGUARD_REFUSED && !db.reply.place);
+    EXPECT(db.reply.refusal.number == 15 && db.reply.replies == 1);
+    EXPECT(execute(&db, eve, "UPDATE DUTY SET DOCTOR = 'EVE' WHERE ID = 2") == SKEWGUARD_DONE);
+    steps[0].statement = leave, steps[0].values = &one;
+    EXPECT(skewguard_run_transaction(&db, bob, steps, 1) == SKEWGUARD_DONE && db.reply.number == 2);
+    EXPECT(skewguard_commit(&db, eve) == SKEWGUARD_DONE && db.reply.number == 3);
+    end.statement = commit, end.values = NULL, end.count = 0;
+    EXPECT(skewguard_run_transaction(&db, bob, &end, 1) == SKEWGUARD_REFUSED && db.reply.place == 2);
+    EXPECT(db.reply.refusal.number == 14 && db.reply.replies == 3);
+    EXPECT(skewguard_run_transaction(&db, bob, NULL, 0) == SKEWGUARD_DONE && db.reply.number == 5);
+    EXPECT(skewguard_run_transaction(&db, 99, steps, 1) == SKEWGUARD_NO_SESSION && !db.reply.replies);
+    EXPECT(skewguard_run_transaction(&db, bob, NULL, 1) == SKEWGUARD_BAD_REQUEST);
+    steps[0].values = NULL;
+    EXPECT(skewguard_run_transaction(&db, bob, steps, 1) == SKEWGUARD_BAD_REQUEST);
+    steps[0].count = 0;
+    EXPECT(skewguard_run_transaction(&db, bob, steps, 1) == SKEWGUARD_WRONG_COUNT && db.reply.place == 1);
+    EXPECT(skewguard_begin(&db, bob) == SKEWGUARD_DONE);
+    skewguard_close(&db);
+}
+
 int main(void)
 {
     opening();
+    drawings();
+    semicolons();
+    many_rows();
+    transactions();
     sessions();
     session_names();
     sessions_at_once();

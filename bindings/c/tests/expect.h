@@ -29,6 +29,16 @@ static inline int begins_with(skewguard_text text, const char *bytes)
     return text.length >= strlen(bytes) && !memcmp(text.bytes, bytes, strlen(bytes));
 }
 
+/* Whether these bytes stand somewhere in a text. */
+static inline int holds(skewguard_text text, const char *bytes)
+{
+    size_t at, length = strlen(bytes);
+    for (at = 0; at + length <= text.length; at++)
+        if (!memcmp(text.bytes + at, bytes, length))
+            return 1;
+    return 0;
+}
+
 static inline int is_number(skewguard_value value, int64_t number)
 {
     return value.kind == SKEWGUARD_NUMBER && value.number == number;

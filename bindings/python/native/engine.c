@@ -25,6 +25,12 @@ void reply_end(Reply *reply)
         free(reply->bytes);
 }
 
+void reply_fail(Reply *reply, const Found *found, int error)
+{
+    reply->status = SKEWGUARD_IO_ERROR;
+    reply->length = found->failure(error, reply->bytes, reply->capacity);
+}
+
 int reply_kind(const Reply *reply)
 {
     return reply->length ? reply->bytes[0] : SKEWGUARD_NOTHING;
@@ -36,6 +42,22 @@ skewguard_reader reply_reader(const Reply *reply)
     return reader;
 }
 
+uint64_t reply_count(const Reply *reply, skewguard_reader *reader)
+{
+    *reader = reply_reader(reply);
+    return reply_kind(reply) == SKEWGUARD_SEVERAL ? skewguard_read_number(reader) : 0;
+}
+
+void reply_next(const Reply *reply, skewguard_reader *reader, Reply *next)
+{
+    skewguard read = {0};
+    next->bytes = reply->bytes + reader->at;
+    next->length = reader->at;
+    skewguard_read_next(&read, reader, 0);
+    next->length = next->capacity = reader->at - next->length;
+    next->status = skewguard_tells_of_done(&read.reply) ? SKEWGUARD_DONE : reply->status;
+}
+
 static int make_room(Reply *reply, size_t length)
 {
     unsigned char *bytes = malloc(length);
@@ -45,6 +67,20 @@ static int make_room(Reply *reply, size_t length)
     reply->bytes = bytes;
     reply->capacity = length;
     return 1;
+}
+
+void reply_draw(Reply *reply, Draws *draws, const unsigned char *request, size_t length)
+{
+    for (;;) {
+        reply->length = 0;
+        if (draws(request, length, reply->bytes, reply->capacity, &reply->length)
+            || (reply->length > reply->capacity && !make_room(reply, reply->length))) {
+            reply->length = 0;
+            return;
+        }
+        if (reply->length <= reply->capacity)
+            return;
+    }
 }
 
 /* ---- calls */
@@ -68,15 +104,76 @@ int32_t engine_ask(Engine *engine, Reply *reply, uint32_t operation, const unsig
     }
 }
 
-/* Tells the line of the last answer. Without memory it is lacking: the event has been. */
+/* ---- what has to be on the disk before it is told */
+
+/* Makes the calls on the file that wait by now. */
+static void sync_now(Engine *engine)
+{
+    uint64_t calls = engine->calls;
+    int error = 0;
+    engine->is_syncing = 1;
+    if (engine->library->take(engine->handle)) {
+        pthread_mutex_unlock(&engine->lock);
+        error = engine->library->make(engine->handle);
+        pthread_mutex_lock(&engine->lock);
+    }
+    engine->failure = engine->library->made(engine->handle, error);
+    engine->is_syncing = 0;
+    engine->kept = calls;
+    pthread_cond_broadcast(&engine->synced);
+}
+
+/* Whether what a call tells of has to be waited for: it waits for the next sync then, or makes it. */
+static int sync_for(Engine *engine, uint64_t call)
+{
+    if (!engine->library->take || engine->kept >= call || engine->failure)
+        return 0;
+    if (engine->is_syncing)
+        pthread_cond_wait(&engine->synced, &engine->lock);
+    else
+        sync_now(engine);
+    return 1;
+}
+
+int engine_keep(Engine *engine)
+{
+    uint64_t call = ++engine->calls;
+    while (sync_for(engine, call))
+        ;
+    return engine->failure;
+}
+
+void *engine_take(Engine *engine)
+{
+    void *handle = engine->handle;
+    /* (others may call meanwhile, and while one syncs there is a call that is not kept) */
+    while (sync_for(engine, engine->calls))
+        ;
+    engine->handle = NULL;
+    return handle;
+}
+
+/* ---- lines, and events */
+
+static void tell_text(Engine *engine, const Reply *line)
+{
+    skewguard_reader reader = reply_reader(line);
+    if (reply_kind(line) == SKEWGUARD_TEXT)
+        engine->tell(engine, skewguard_read_text(&reader));
+}
+
+/* Tells the line of the last answer, or of each of several. Without memory they are lacking: the events have been. */
 static void tell_line(Engine *engine)
 {
-    Reply line;
+    Reply line, next;
+    skewguard_reader reader;
+    uint64_t count;
     reply_start(&line, 0);
     engine_ask(engine, &line, SKEWGUARD_DO_LINE, nothing, 0);
-    if (reply_kind(&line) == SKEWGUARD_TEXT) {
-        skewguard_reader reader = reply_reader(&line);
-        engine->tell(engine, skewguard_read_text(&reader));
+    tell_text(engine, &line);
+    for (count = reply_count(&line, &reader); count; count--) {
+        reply_next(&line, &reader, &next);
+        tell_text(engine, &next);
     }
     reply_end(&line);
 }
@@ -84,7 +181,9 @@ static void tell_line(Engine *engine)
 int32_t engine_event(Engine *engine, Reply *reply, uint32_t operation, const unsigned char *request, size_t length)
 {
     engine_ask(engine, reply, operation, request, length);
-    if (engine->tell && (reply->status == SKEWGUARD_DONE || reply->status == SKEWGUARD_REFUSED))
+    if (engine->tell
+        && (reply->status == SKEWGUARD_DONE || reply->status == SKEWGUARD_REFUSED
+            || reply->status == SKEWGUARD_NOT_KEPT))
         tell_line(engine);
     return reply->status;
 }
@@ -304,6 +403,19 @@ int32_t engine_begin(Engine *engine, Reply *reply, uint32_t operation, const cha
     else
         engine_forget(engine, found); /* it may have begun, and nobody has it */
     return status;
+}
+
+int32_t engine_transact(Engine *engine, Reply *reply, const char *name, size_t name_length, unsigned char *request,
+                        size_t length)
+{
+    Session *found = NULL;
+    int32_t status = name ? named_session(engine, reply, name, name_length, &found)
+                          : pooled_session(engine, reply, &found);
+    if (status != SKEWGUARD_DONE)
+        return status;
+    found->used = ++engine->uses;
+    memcpy(request, &found->number, sizeof found->number); /* whose lowest byte comes first on x86-64 */
+    return engine_event(engine, reply, SKEWGUARD_DO_TRANSACT, request, length);
 }
 
 void engine_end(Session *session)

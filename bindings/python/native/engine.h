@@ -15,7 +15,7 @@
 
 enum { MOST_SESSIONS = 256, LONGEST_NAME = 128, REPLY_ROOM = 1024 };
 
-/* What there is besides the statuses of the library: _refusals.py has the words of both. */
+/* What there is besides the statuses of skewguard.h: _refusals.py has the words of both. */
 enum {
     IS_CLOSED = -1,
     IS_ENDED = -2,
@@ -28,13 +28,27 @@ enum {
     IS_NO_TEXT = -9
 };
 
-/* The functions of the library, once it was found. */
+/* The functions of an opened library: of one that keeps a journal, or of one that keeps none. */
 typedef struct Library {
-    int32_t (*open)(const unsigned char *request, size_t length, void **handle);
     int32_t (*call)(void *handle, uint32_t operation, const unsigned char *request, size_t length,
                     unsigned char *reply, size_t capacity, size_t *reply_length);
     void (*close)(void *handle);
+    /* Of one whose threads share the syncs of a journal, the steps of one (skewguard_journal_take, _make and _made). */
+    int (*take)(void *handle);
+    int (*make)(const void *handle);
+    int (*made)(void *handle, int error);
 } Library;
+
+/* The functions of the shared library, once it was found. */
+typedef struct Found {
+    int32_t (*open)(const unsigned char *request, size_t length, void **handle);
+    int32_t (*open_journal)(const char *path, const unsigned char *request, size_t length, void **handle, int *error);
+    int32_t (*draw)(const unsigned char *request, size_t length, unsigned char *reply, size_t capacity,
+                    size_t *reply_length);
+    size_t (*failure)(int error, unsigned char *reply, size_t capacity);
+    /* One whose lines are told syncs in each call, so that a line is told once it is on the disk, and in its order. */
+    Library plain, journaled, traced;
+} Found;
 
 /* A reply: in its room, or where it is longer in memory of its own. */
 typedef struct Reply {
@@ -62,6 +76,11 @@ typedef struct Engine {
     void (*tell)(struct Engine *engine, skewguard_text line);
     atomic_int has_forgotten;
     int has_unheard; /* the last call has made something, but there was no memory to say what */
+    /* How many calls were made, and of how many all that they tell of is on the disk; whether a thread syncs, and the
+     * errno of a sync that failed. */
+    uint64_t calls, kept;
+    int is_syncing, failure;
+    pthread_cond_t synced;
     uint64_t uses;
     size_t places; /* those of sessions that were ever open */
     Session sessions[MOST_SESSIONS];
@@ -70,13 +89,31 @@ typedef struct Engine {
 /* A reply that may be so long. Where there is no memory for it, it is asked for again. */
 void reply_start(Reply *reply, size_t expected);
 void reply_end(Reply *reply);
+/* That a call on the journal's file failed, with this errno. */
+void reply_fail(Reply *reply, const Found *found, int error);
 int reply_kind(const Reply *reply);
 /* A reader of what stands behind the kind. */
 skewguard_reader reply_reader(const Reply *reply);
+/* How many replies there are of a call that made several events, and a reader of them; 0 of any other call. */
+uint64_t reply_count(const Reply *reply, skewguard_reader *reader);
+/* The next of several: a part of them all, with their status where it tells of something that was not done. */
+void reply_next(const Reply *reply, skewguard_reader *reader, Reply *next);
+
+/* What a function draws by this request; nothing where it draws none, or where there is no memory for it. */
+typedef int32_t Draws(const unsigned char *request, size_t length, unsigned char *reply, size_t capacity,
+                      size_t *reply_length);
+void reply_draw(Reply *reply, Draws *draws, const unsigned char *request, size_t length);
 
 /* Locks. 0; or IS_CLOSED, and it is not locked. */
 int32_t engine_lock(Engine *engine);
 void engine_unlock(Engine *engine);
+
+/* Waits until all that was told so far is on the disk: 0, or the errno for which it may not be. One thread syncs for
+ * all that wait, and lets the lock go meanwhile. */
+int engine_keep(Engine *engine);
+
+/* Waits until nothing more has to be kept, and takes the handle away. */
+void *engine_take(Engine *engine);
 
 /* Rolls back what was forgotten, which each call does first. 0 or NO_MEMORY. */
 int32_t engine_settle(Engine *engine);
@@ -102,6 +139,13 @@ int32_t engine_event_of(Engine *engine, Reply *reply, uint32_t operation, const 
  */
 int32_t engine_begin(Engine *engine, Reply *reply, uint32_t operation, const char *name, size_t length,
                      Session **taken);
+
+/*
+ * A whole transaction in one call, in the session of a name or in one that no transaction uses. The request begins with
+ * room for the number of that session. Behind it no transaction is open there, unless one was before.
+ */
+int32_t engine_transact(Engine *engine, Reply *reply, const char *name, size_t name_length, unsigned char *request,
+                        size_t length);
 
 /* That the transaction of a session has ended. */
 void engine_end(Session *session);

@@ -41,11 +41,16 @@ int32_t enter(EngineObject *it)
     return status;
 }
 
-void leave(EngineObject *it)
+int32_t leave(EngineObject *it, Reply *reply, int32_t status)
 {
-    PyThreadState *thread = it->thread;
+    PyThreadState *thread = it->thread; /* another thread may have the lock while this one waits for a sync */
+    int error = engine_keep(&it->engine);
     engine_unlock(&it->engine);
     PyEval_RestoreThread(thread);
+    if (!error)
+        return status;
+    reply_fail(reply, &found, error);
+    return SKEWGUARD_IO_ERROR;
 }
 
 /* An interrupt in the trace, or in one before it, is raised once the call is over. */
@@ -84,45 +89,65 @@ static int is_opened(EngineObject *it, PyObject *definitions)
     return !status;
 }
 
-static int open_engine(EngineObject *it, const char *request, Py_ssize_t length, PyObject *definitions)
+/* Raises that a journal's file was not opened, for this errno. */
+static void raise_io_error(int error)
+{
+    Reply reply;
+    reply_start(&reply, 0);
+    reply_fail(&reply, &found, error);
+    raise_status(reply.status, &reply, NULL);
+    reply_end(&reply);
+}
+
+/* Opens the library, over the journal in the file of this name where one is given. */
+static int open_engine(EngineObject *it, const char *request, Py_ssize_t length, PyObject *definitions,
+                       const char *path)
 {
     int32_t status;
-    if (!library.open) {
+    int error = 0;
+    if (!found.open) {
         PyErr_SetString(PyExc_RuntimeError, "no library is loaded");
         return 0;
     }
+    it->engine.library = !path ? &found.plain : it->trace ? &found.traced : &found.journaled;
     Py_BEGIN_ALLOW_THREADS
-    status = library.open((const unsigned char *)request, (size_t)length, &it->engine.handle);
+    if (path)
+        status = found.open_journal(path, (const unsigned char *)request, (size_t)length, &it->engine.handle, &error);
+    else
+        status = found.open((const unsigned char *)request, (size_t)length, &it->engine.handle);
     Py_END_ALLOW_THREADS
-    if (status) {
-        it->engine.handle = NULL;
+    if (!status)
+        return is_opened(it, definitions);
+    it->engine.handle = NULL;
+    if (status == SKEWGUARD_IO_ERROR)
+        raise_io_error(error);
+    else
         raise_status(SKEWGUARD_NO_MEMORY, NULL, NULL);
-        return 0;
-    }
-    return is_opened(it, definitions);
+    return 0;
 }
 
-/* Engine(request, definitions, trace): the request holds the definitions. */
+/* Engine(request, definitions, trace, path): the request holds the definitions; path is the name of a journal's file in
+ * bytes, or None. */
 static PyObject *engine_new(PyTypeObject *type, PyObject *args, PyObject *kwargs)
 {
-    const char *request;
-    Py_ssize_t length;
+    const char *request, *path;
+    Py_ssize_t length, path_length;
     PyObject *definitions, *trace;
     EngineObject *it;
     (void)kwargs;
-    if (!PyArg_ParseTuple(args, "y#OO", &request, &length, &definitions, &trace))
+    if (!PyArg_ParseTuple(args, "y#OOz#", &request, &length, &definitions, &trace, &path, &path_length))
         return NULL;
     it = (EngineObject *)((allocfunc)PyType_GetSlot(type, Py_tp_alloc))(type, 0);
     if (!it)
         return NULL;
     pthread_mutex_init(&it->engine.lock, NULL);
-    it->engine.library = &library;
+    pthread_cond_init(&it->engine.synced, NULL);
     it->process = process;
     if (trace != Py_None) {
         Py_INCREF(it->trace = trace);
         it->engine.tell = tell;
     }
-    if (!statements_start(&it->statements) || !open_engine(it, request, length, definitions)) {
+    if (!statements_start(&it->statements) || !open_engine(it, request, length, definitions, path)) {
         Py_DECREF(it);
         return NULL;
     }
@@ -149,7 +174,7 @@ static void close_handle(EngineObject *it, void *handle)
     if (!handle || it->process != process)
         return;
     Py_BEGIN_ALLOW_THREADS
-    library.close(handle);
+    it->engine.library->close(handle);
     Py_END_ALLOW_THREADS
 }
 
@@ -161,6 +186,7 @@ static void engine_dealloc(PyObject *self)
     close_handle(it, it->engine.handle);
     statements_end(&it->statements);
     Py_XDECREF(it->trace);
+    pthread_cond_destroy(&it->engine.synced);
     pthread_mutex_destroy(&it->engine.lock);
     ((freefunc)PyType_GetSlot(type, Py_tp_free))(self);
     Py_DECREF(type);
@@ -182,7 +208,7 @@ static PyObject *engine_call(PyObject *self, PyObject *args)
     status = enter(it);
     if (!status) {
         status = engine_ask(&it->engine, &reply, operation, (const unsigned char *)request, (size_t)length);
-        leave(it);
+        status = leave(it, &reply, status);
     }
     if (status)
         raise_status(status, &reply, text);
@@ -196,14 +222,16 @@ static PyObject *engine_close(PyObject *self, PyObject *nothing)
 {
     EngineObject *it = (EngineObject *)self;
     void *handle;
+    PyThreadState *thread;
     (void)nothing;
     if (it->process == process) {
         if (!may_call(it))
             return NULL;
         if (!enter(it)) {
-            handle = it->engine.handle;
-            it->engine.handle = NULL;
-            leave(it);
+            thread = it->thread;
+            handle = engine_take(&it->engine);
+            engine_unlock(&it->engine);
+            PyEval_RestoreThread(thread);
             close_handle(it, handle);
         }
     }
@@ -236,6 +264,15 @@ static PyObject *engine_transaction(PyObject *self, PyObject *args, PyObject *kw
     return made;
 }
 
+/* _transact(steps, name): a list of tuples, each of a text, which is a str, and of values as a list or a tuple. */
+static PyObject *engine_transact_method(PyObject *self, PyObject *args)
+{
+    PyObject *steps, *name;
+    if (!PyArg_ParseTuple(args, "O!O", &PyList_Type, &steps, &name) || !may_call((EngineObject *)self))
+        return NULL;
+    return transact((EngineObject *)self, steps, name);
+}
+
 static PyMethodDef engine_methods[] = {
     {"transaction", (PyCFunction)(void (*)(void))engine_transaction, METH_VARARGS | METH_KEYWORDS,
      "transaction($self, /, *, read_only=False, retry=0, session=None)\n--\n\n"
@@ -254,6 +291,7 @@ static PyMethodDef engine_methods[] = {
      "session: the name under which the report tells of it, of any number of names; without one the manager gives it\n"
      "    one. 256 transactions may be open at once, and one more is an OperationalError (number 24)."},
     {"_call", engine_call, METH_VARARGS, NULL},
+    {"_transact", engine_transact_method, METH_VARARGS, NULL},
     {"close", engine_close, METH_NOARGS,
      "Gives the memory back. Open transactions are lost. Later calls raise InterfaceError, but for this one."},
     {NULL, NULL, 0, NULL},

@@ -5,19 +5,35 @@
 #include <dlfcn.h>
 
 Helpers helpers;
-Library library;
+Found found;
 unsigned process;
 
 PyObject *raise_status(int32_t status, const Reply *reply, PyObject *detail)
 {
+    return raise_in(Py_None, status, reply, detail);
+}
+
+PyObject *raise_in(PyObject *engine, int32_t status, const Reply *reply, PyObject *detail)
+{
     const char *bytes = reply ? (const char *)reply->bytes : "";
     Py_ssize_t length = reply ? (Py_ssize_t)reply->length : 0;
-    PyObject *error =
-        PyObject_CallFunction(helpers.error_of, "iy#O", (int)status, bytes, length, detail ? detail : Py_None);
+    PyObject *error = PyObject_CallFunction(helpers.error_of, "iy#OO", (int)status, bytes, length,
+                                            detail ? detail : Py_None, engine);
     if (error)
         PyErr_SetObject((PyObject *)Py_TYPE(error), error);
     Py_XDECREF(error);
     return NULL;
+}
+
+/* A function of a file by its name; 0 with AttributeError. */
+static int find(void *file, const char *name, void *function)
+{
+    void *there = dlsym(file, name);
+    if (there)
+        memcpy(function, &there, sizeof there);
+    else
+        PyErr_SetString(PyExc_AttributeError, dlerror());
+    return there != NULL;
 }
 
 /* load(path): the library of a file. Raises OSError where it is none, and AttributeError where it is another one. */
@@ -25,7 +41,7 @@ static PyObject *load(PyObject *module, PyObject *args)
 {
     const char *path;
     void *file;
-    Library found;
+    Found there = {0};
     (void)module;
     if (!PyArg_ParseTuple(args, "s", &path))
         return NULL;
@@ -34,28 +50,54 @@ static PyObject *load(PyObject *module, PyObject *args)
         PyErr_SetString(PyExc_OSError, dlerror());
         return NULL;
     }
-    *(void **)&found.open = dlsym(file, "skewguard_library_open");
-    *(void **)&found.call = dlsym(file, "skewguard_library_call");
-    *(void **)&found.close = dlsym(file, "skewguard_library_close");
-    if (!found.open || !found.call || !found.close) {
-        PyErr_SetString(PyExc_AttributeError, dlerror());
+    if (!find(file, "skewguard_library_open", &there.open) || !find(file, "skewguard_library_draw", &there.draw)
+        || !find(file, "skewguard_library_call", &there.plain.call)
+        || !find(file, "skewguard_library_close", &there.plain.close)
+        || !find(file, "skewguard_journal_open", &there.open_journal)
+        || !find(file, "skewguard_journal_failure", &there.failure)
+        || !find(file, "skewguard_journal_call", &there.traced.call)
+        || !find(file, "skewguard_journal_start", &there.journaled.call)
+        || !find(file, "skewguard_journal_take", &there.journaled.take)
+        || !find(file, "skewguard_journal_make", &there.journaled.make)
+        || !find(file, "skewguard_journal_made", &there.journaled.made)
+        || !find(file, "skewguard_journal_close", &there.journaled.close)) {
         dlclose(file);
         return NULL;
     }
-    library = found;
+    there.traced.close = there.journaled.close;
+    found = there;
     return none();
+}
+
+/* draw(request): why a text was refused, drawn in it. Empty where that is not known, or there is no memory for it. */
+static PyObject *draw(PyObject *module, PyObject *args)
+{
+    const char *request;
+    Py_ssize_t length;
+    PyObject *drawn;
+    Reply reply;
+    (void)module;
+    if (!PyArg_ParseTuple(args, "y#", &request, &length))
+        return NULL;
+    reply_start(&reply, 0);
+    Py_BEGIN_ALLOW_THREADS
+    reply_draw(&reply, found.draw, (const unsigned char *)request, (size_t)length);
+    Py_END_ALLOW_THREADS
+    drawn = PyUnicode_DecodeUTF8((const char *)reply.bytes, (Py_ssize_t)reply.length, "replace");
+    reply_end(&reply);
+    return drawn;
 }
 
 /* use(error_of=, ..): what is Python's. */
 static PyObject *use(PyObject *module, PyObject *args, PyObject *kwargs)
 {
-    static char *names[] = {"error_of", "parameter_bytes", "text_bytes", "taken", "unended", "row_type", "tell",
+    static char *names[] = {"error_of", "parameter_bytes", "text_bytes", "taken", "row_type", "tell",
                             "checked_retry", "result", "transaction", NULL};
     Helpers given;
     (void)module;
-    if (!PyArg_ParseTupleAndKeywords(args, kwargs, "OOOOOOOOO!O!", names, &given.error_of, &given.parameter_bytes,
-                                     &given.text_bytes, &given.taken, &given.unended, &given.row_type,
-                                     &given.tell, &given.checked_retry, &PyType_Type, &given.result.type, &PyType_Type,
+    if (!PyArg_ParseTupleAndKeywords(args, kwargs, "OOOOOOOO!O!", names, &given.error_of, &given.parameter_bytes,
+                                     &given.text_bytes, &given.taken, &given.row_type, &given.tell,
+                                     &given.checked_retry, &PyType_Type, &given.result.type, &PyType_Type,
                                      &given.transaction.type))
         return NULL;
     given.result.allocate = (allocfunc)PyType_GetSlot(given.result.type, Py_tp_alloc);
@@ -73,6 +115,7 @@ static void note_fork(void)
 
 static PyMethodDef functions[] = {
     {"load", load, METH_VARARGS, NULL},
+    {"draw", draw, METH_VARARGS, NULL},
     {"use", (PyCFunction)(void (*)(void))use, METH_VARARGS | METH_KEYWORDS, NULL},
     {NULL, NULL, 0, NULL},
 };

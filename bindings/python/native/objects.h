@@ -31,7 +31,7 @@ typedef struct EngineObject {
 extern PyType_Spec engine_spec, transaction_spec, answer_spec;
 
 /* The library that was loaded, and which process this is, of those that forks have made. */
-extern Library library;
+extern Found found;
 extern unsigned process;
 
 /* The empty tuple, and the number 0. */
@@ -51,10 +51,15 @@ int may_call(const EngineObject *it);
 
 /* Lets go of the interpreter and takes the lock; else the status of why not, and the interpreter is had again. */
 int32_t enter(EngineObject *it);
-void leave(EngineObject *it);
+/* Lets the lock go and takes the interpreter back, once all that a call tells of is on the disk. Its status; or
+ * SKEWGUARD_IO_ERROR, which the reply then tells of, where that failed. */
+int32_t leave(EngineObject *it, Reply *reply, int32_t status);
 
 /* A transaction that has not begun. */
 PyObject *new_transaction(EngineObject *engine, int is_read_only, PyObject *name, PyObject *retry);
+
+/* A whole transaction: the number of its commit, and the answers to its statements. */
+PyObject *transact(EngineObject *engine, PyObject *steps, PyObject *name);
 
 /* What the reply to a statement says, of which the text is given. */
 PyObject *answer_of(EngineObject *it, PyObject *text, const Reply *reply);

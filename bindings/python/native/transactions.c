@@ -62,6 +62,8 @@ static void note(TransactionObject *it, const Reply *reply)
 {
     if (reply->status == SKEWGUARD_REPLY_WAITS) {
         give_up(it, WAS_LOST);
+    } else if (reply->status == SKEWGUARD_IO_ERROR) {
+        end(it, WAS_LOST); /* nothing is answered any more */
     } else if (reply_kind(reply) == SKEWGUARD_COMMITTED) {
         it->number = first_number(reply);
         end(it, HAS_COMMITTED);
@@ -75,11 +77,20 @@ static void note(TransactionObject *it, const Reply *reply)
     }
 }
 
+/* The same as leave. Of a transaction nothing is known any more where the sync behind a call failed. */
+static int32_t leave_as(TransactionObject *it, Reply *reply, int32_t status)
+{
+    int32_t kept = leave(it->engine, reply, status);
+    if (kept != status)
+        atomic_store(&it->state, WAS_LOST);
+    return kept;
+}
+
 static PyObject *raise_of(TransactionObject *it, int32_t status, const Reply *reply, PyObject *text)
 {
     PyObject *state;
     if (status != IS_ENDED)
-        return raise_status(status, reply, text);
+        return raise_in((PyObject *)it->engine, status, reply, text);
     state = PyLong_FromLong(atomic_load(&it->state));
     if (state)
         raise_status(IS_ENDED, NULL, state);
@@ -99,8 +110,7 @@ static int32_t finish(TransactionObject *it, Reply *reply, uint32_t operation)
     } else {
         status = IS_ENDED;
     }
-    leave(it->engine);
-    return status;
+    return leave_as(it, reply, status);
 }
 
 /* 0 with a Python exception. */
@@ -223,7 +233,7 @@ static int begin_in(TransactionObject *it, const char *name, size_t length)
             it->snapshot = first_number(&reply);
             atomic_store(&it->state, IS_OPEN);
         }
-        leave(it->engine);
+        status = leave_as(it, &reply, status);
     }
     if (status && !PyErr_Occurred())
         raise_status(status == SKEWGUARD_REPLY_WAITS ? SKEWGUARD_NO_MEMORY : status, &reply, it->name);
@@ -341,11 +351,11 @@ static void keep(EngineObject *it, PyObject *text, const Reply *reply, Statement
         engine_ask_of(&it->engine, SKEWGUARD_DO_FORGET, gone->number);
 }
 
-/* Asks for a statement, which is kept under a text. 0 with a Python exception; else the status is in the reply. */
-static int ask_to_prepare(EngineObject *it, PyObject *text, PyObject *statement, Reply *reply)
+/* Asks for a statement, which is kept under its text. 0 with a Python exception; else the status is in the reply. */
+static int ask_to_prepare(EngineObject *it, PyObject *text, Reply *reply)
 {
     Statement gone = {0};
-    PyObject *bytes = PyObject_CallFunctionObjArgs(helpers.text_bytes, statement, NULL);
+    PyObject *bytes = PyObject_CallFunctionObjArgs(helpers.text_bytes, text, NULL);
     const char *request = bytes ? PyBytes_AsString(bytes) : NULL;
     reply->status = request ? enter(it) : SKEWGUARD_NO_MEMORY;
     if (!reply->status) {
@@ -353,27 +363,20 @@ static int ask_to_prepare(EngineObject *it, PyObject *text, PyObject *statement,
                     (size_t)PyBytes_Size(bytes));
         if (!reply->status)
             keep(it, text, reply, &gone);
-        leave(it);
+        reply->status = leave(it, reply, reply->status);
     }
     statement_clear(&gone);
     Py_XDECREF(bytes);
     return !PyErr_Occurred();
 }
 
-/* Prepares the statement of a text. The library takes none with a `;` at its end, as a script has it; here it may. */
+/* Prepares the statement of a text. 0 with a Python exception. */
 static int prepare(EngineObject *it, PyObject *text)
 {
     Reply reply;
     reply_start(&reply, 0);
-    if (ask_to_prepare(it, text, text, &reply) && reply_kind(&reply) == SKEWGUARD_REFUSAL
-        && first_number(&reply) == SKEWGUARD_FAULT_SYNTAX) {
-        PyObject *statement = PyObject_CallFunctionObjArgs(helpers.unended, text, NULL);
-        if (statement && statement != Py_None)
-            ask_to_prepare(it, text, statement, &reply);
-        Py_XDECREF(statement);
-    }
-    if (reply.status && !PyErr_Occurred())
-        raise_status(reply.status, &reply, text);
+    if (ask_to_prepare(it, text, &reply) && reply.status)
+        raise_in((PyObject *)it, reply.status, &reply, text);
     reply_end(&reply);
     return !PyErr_Occurred();
 }
@@ -410,8 +413,7 @@ static int32_t run_number(TransactionObject *it, uint64_t number, Request *reque
     } else {
         status = IS_ENDED;
     }
-    leave(it->engine);
-    return status;
+    return leave_as(it, reply, status);
 }
 
 static void raise_count(uint64_t wanted, uint64_t given)
@@ -515,6 +517,237 @@ static PyObject *transaction_execute(PyObject *self, PyObject *args, PyObject *k
     return execute_taken((TransactionObject *)self, text, values);
 }
 
+/* ---- several statements in one call */
+
+/* Gives the exception that is raised the place of its statement. What is no exception of ours has none. */
+static void *place_error(Py_ssize_t place)
+{
+    PyObject *type, *value, *traceback, *number;
+    PyErr_Fetch(&type, &value, &traceback);
+    PyErr_NormalizeException(&type, &value, &traceback);
+    number = PyLong_FromSsize_t(place);
+    if (value && number && PyObject_HasAttrString(value, "place"))
+        PyObject_SetAttrString(value, "place", number);
+    Py_XDECREF(number);
+    PyErr_Restore(type, value, traceback);
+    return NULL;
+}
+
+/* Adds a statement with its values to a request. 0 with a Python exception. */
+static int add_step(EngineObject *it, PyObject *text, PyObject *values, Request *request)
+{
+    Statement *statement = prepared(it, text);
+    uint64_t count, parameters = statement ? statement->parameters : 0;
+    if (!statement || !request_add_number(request, statement->number)
+        || !request_add_values(request, values, &count))
+        return 0;
+    if (count != parameters)
+        raise_count(parameters, count);
+    return count == parameters;
+}
+
+/* The answers to statements from the replies of some calls; NULL with the exception of the first that was not done.
+ * Each statement has its text, or all have the one that is given. */
+static PyObject *answers_of(TransactionObject *of, EngineObject *it, PyObject *text, PyObject *steps,
+                            const Reply *reply, skewguard_reader *reader, Py_ssize_t count)
+{
+    PyObject *answer, *answers = PyList_New(0);
+    Py_ssize_t place;
+    Reply next;
+    int is_added = answers != NULL;
+    for (place = 0; is_added && place < count; place++) {
+        PyObject *own = steps ? PyTuple_GetItem(PyList_GetItem(steps, place), 0) : text;
+        reply_next(reply, reader, &next);
+        if (next.status)
+            answer = of ? raise_of(of, next.status, &next, own) : raise_in((PyObject *)it, next.status, &next, own);
+        else
+            answer = answer_of(it, own, &next);
+        is_added = answer && !PyList_Append(answers, answer);
+        Py_XDECREF(answer);
+    }
+    if (is_added)
+        return answers;
+    Py_XDECREF(answers);
+    return place_error(place - 1);
+}
+
+/* Notes by several replies whether a transaction has ended. */
+static void note_all(TransactionObject *it, const Reply *reply)
+{
+    skewguard_reader reader;
+    uint64_t count = reply_count(reply, &reader);
+    Reply next;
+    if (reply->status == SKEWGUARD_REPLY_WAITS)
+        give_up(it, WAS_LOST);
+    for (; count && atomic_load(&it->state) == IS_OPEN; count--) {
+        reply_next(reply, &reader, &next);
+        note(it, &next);
+    }
+}
+
+/* Runs the statements of a request, in a transaction that has to be open. */
+static int32_t run_steps(TransactionObject *it, uint64_t count, Request *request, Reply *reply)
+{
+    int32_t status = enter(it->engine);
+    if (status)
+        return status;
+    if (atomic_load(&it->state) == IS_OPEN) {
+        request_put(request, 0, it->session->number);
+        request_put(request, 1, count);
+        status = engine_event(&it->engine->engine, reply, SKEWGUARD_DO_RUN_ALL, request->bytes, request->length);
+        note_all(it, reply);
+    } else {
+        status = IS_ENDED;
+    }
+    return leave_as(it, reply, status);
+}
+
+/* Adds a statement with each of these lists of values, up to one that it does not take: then there is a Python
+ * exception. How many were added. */
+static Py_ssize_t add_rows(EngineObject *it, PyObject *text, PyObject *rows, Request *request)
+{
+    Py_ssize_t place, count = PyList_Size(rows);
+    size_t whole = request->length;
+    for (place = 0; place < count; place++, whole = request->length)
+        if (!add_step(it, text, PyList_GetItem(rows, place), request))
+            break;
+    request->length = whole;
+    return place;
+}
+
+/* The answers to a statement with lists of values. Where one is no list of values for it, those before it have been. */
+static PyObject *run_rows(TransactionObject *it, PyObject *text, PyObject *rows)
+{
+    PyObject *type, *value, *traceback, *answers = NULL;
+    skewguard_reader reader;
+    Request request;
+    Py_ssize_t count;
+    int32_t status;
+    Reply reply;
+    do {
+        request_start(&request, 2);
+        count = add_rows(it->engine, text, rows, &request);
+        if (PyErr_Occurred())
+            place_error(count);
+        PyErr_Fetch(&type, &value, &traceback);
+        reply_start(&reply, 64 + 16 * (size_t)count);
+        status = run_steps(it, (uint64_t)count, &request, &reply);
+        request_end(&request);
+        if (PyErr_Occurred()) /* in the trace */
+            status = SKEWGUARD_DONE;
+        else if (reply_count(&reply, &reader))
+            answers = status == SKEWGUARD_NO_STATEMENT
+                ? NULL
+                : answers_of(it, it->engine, text, NULL, &reply, &reader, (Py_ssize_t)reply_count(&reply, &reader));
+        else if (status && status != SKEWGUARD_NO_STATEMENT)
+            raise_of(it, status, &reply, text);
+        else if (!status)
+            answers = PyList_New(0);
+        reply_end(&reply);
+        if (type && !PyErr_Occurred() && status != SKEWGUARD_NO_STATEMENT) {
+            Py_CLEAR(answers);
+            PyErr_Restore(type, value, traceback);
+        } else {
+            Py_XDECREF(type);
+            Py_XDECREF(value);
+            Py_XDECREF(traceback);
+        }
+    } while (status == SKEWGUARD_NO_STATEMENT && !PyErr_Occurred());
+    return answers;
+}
+
+/* _run_all(text, rows): the text is a str, and the rows a list of lists and tuples. */
+static PyObject *transaction_run_all(PyObject *self, PyObject *args)
+{
+    TransactionObject *it = (TransactionObject *)self;
+    PyObject *text, *rows;
+    if (!PyArg_ParseTuple(args, "UO!", &text, &PyList_Type, &rows) || !may_call(it->engine))
+        return NULL;
+    return atomic_load(&it->state) == IS_OPEN ? run_rows(it, text, rows) : raise_of(it, IS_ENDED, NULL, NULL);
+}
+
+/* ---- a whole transaction in one call */
+
+static int add_steps(EngineObject *it, PyObject *steps, Request *request)
+{
+    PyObject *step;
+    Py_ssize_t place, count = PyList_Size(steps);
+    for (place = 0; place < count; place++) {
+        step = PyList_GetItem(steps, place);
+        if (!add_step(it, PyTuple_GetItem(step, 0), PyTuple_GetItem(step, 1), request)) {
+            place_error(place);
+            return 0;
+        }
+    }
+    request_put(request, 1, (uint64_t)count);
+    return 1;
+}
+
+/* The number of the commit, and the answers to the statements behind BEGIN. The first that was not done is raised. */
+static PyObject *transacted(EngineObject *it, PyObject *steps, const Reply *reply)
+{
+    Py_ssize_t count = PyList_Size(steps);
+    skewguard_reader reader, number;
+    PyObject *answers, *both = NULL;
+    uint64_t replies = reply_count(reply, &reader);
+    Reply next;
+    if (!replies)
+        return raise_status(reply->status, reply, NULL);
+    reply_next(reply, &reader, &next);
+    if (next.status)
+        return raise_status(next.status, &next, NULL);
+    answers = answers_of(NULL, it, NULL, steps, reply, &reader, count);
+    if (!answers)
+        return NULL;
+    reply_next(reply, &reader, &next);
+    number = reply_reader(&next);
+    if (next.status)
+        raise_status(next.status, &next, NULL);
+    else
+        both = Py_BuildValue("KO", (unsigned long long)skewguard_read_number(&number), answers);
+    Py_DECREF(answers);
+    return both;
+}
+
+/* Makes the call, unless a statement is not taken. The status; NO_STATEMENT where others have taken one out. */
+static int32_t ask_to_transact(EngineObject *it, PyObject *steps, const char *name, size_t length, Reply *reply)
+{
+    Request request;
+    int32_t status = SKEWGUARD_BAD_REQUEST;
+    request_start(&request, 2);
+    if (add_steps(it, steps, &request)) {
+        status = enter(it);
+        if (!status) {
+            status = engine_transact(&it->engine, reply, name, length, request.bytes, request.length);
+            status = leave(it, reply, status);
+        }
+    }
+    request_end(&request);
+    return status;
+}
+
+PyObject *transact(EngineObject *it, PyObject *steps, PyObject *name)
+{
+    PyObject *bytes = name == Py_None ? NULL : PyObject_CallFunctionObjArgs(helpers.text_bytes, name, NULL);
+    const char *named = bytes ? PyBytes_AsString(bytes) : NULL;
+    PyObject *both = NULL;
+    int32_t status = SKEWGUARD_NO_STATEMENT;
+    Reply reply;
+    while (!PyErr_Occurred() && status == SKEWGUARD_NO_STATEMENT) {
+        reply_start(&reply, 0);
+        status = ask_to_transact(it, steps, named, bytes ? (size_t)PyBytes_Size(bytes) : 0, &reply);
+        if (!PyErr_Occurred() && status != SKEWGUARD_NO_STATEMENT) {
+            if (status < 0 || status == SKEWGUARD_REPLY_WAITS)
+                raise_status(status, &reply, name);
+            else
+                both = transacted(it, steps, &reply);
+        }
+        reply_end(&reply);
+    }
+    Py_XDECREF(bytes);
+    return both;
+}
+
 /* ---- what is known of it */
 
 static PyObject *transaction_snapshot(PyObject *self, void *closure)
@@ -553,6 +786,7 @@ static PyMethodDef transaction_methods[] = {
      "open as before; or ReplyLost."},
     {"rollback", transaction_rollback, METH_NOARGS,
      "rollback($self, /)\n--\n\nEnds the transaction, and nothing of it is left."},
+    {"_run_all", transaction_run_all, METH_VARARGS, NULL},
     {"__enter__", transaction_enter, METH_NOARGS, NULL},
     {"__exit__", transaction_exit, METH_VARARGS, NULL},
     {"_begin", transaction_begin, METH_NOARGS, NULL},

@@ -61,6 +61,14 @@ static unsigned char *add(Request *request, size_t more)
     return added;
 }
 
+int request_add_number(Request *request, uint64_t number)
+{
+    unsigned char *added = add(request, sizeof number);
+    if (added)
+        write_number(added, number);
+    return added != NULL;
+}
+
 static int add_bytes(Request *request, const char *bytes, size_t length)
 {
     unsigned char *added = add(request, length);
@@ -69,11 +77,12 @@ static int add_bytes(Request *request, const char *bytes, size_t length)
     return added != NULL;
 }
 
-static int is_printable(const char *bytes, Py_ssize_t length)
+/* Whether a text has no control character of ASCII. */
+static int is_plain(const char *bytes, Py_ssize_t length)
 {
     Py_ssize_t place;
     for (place = 0; place < length; place++)
-        if (bytes[place] < ' ' || bytes[place] > '~')
+        if ((unsigned char)bytes[place] < ' ' || bytes[place] == 0x7f)
             return 0;
     return 1;
 }
@@ -103,7 +112,7 @@ static Added add_text(Request *request, PyObject *value)
     unsigned char *added;
     if (!bytes)
         PyErr_Clear(); /* it has a surrogate; or there is no memory, of which Python will say so */
-    if (!bytes || !is_printable(bytes, length))
+    if (!bytes || !is_plain(bytes, length))
         return IS_NO_VALUE;
     added = add(request, 9 + (size_t)length);
     if (!added)

@@ -22,6 +22,9 @@ void request_start(Request *request, size_t numbers);
 void request_put(Request *request, size_t place, uint64_t number);
 void request_end(Request *request);
 
+/* Adds a number. 0 with a Python exception. */
+int request_add_number(Request *request, uint64_t number);
+
 /* Adds how many values a list or a tuple has, and these. 0 with a Python exception. */
 int request_add_values(Request *request, PyObject *values, uint64_t *count);
 

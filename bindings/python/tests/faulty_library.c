@@ -1,6 +1,6 @@
 /*
- * A library in front of the library: it does what that one does, but for what it was told to answer, and it counts.
- * tests/faulty.py builds it, and tells it.
+ * A library in front of the library: it does what that one does, but for what it was told to answer without a journal,
+ * and it counts. tests/faulty.py builds it, and tells it.
  */
 #include <dlfcn.h>
 #include <stdint.h>
@@ -88,4 +88,71 @@ void skewguard_library_close(void *library)
     *(void **)&close = found("skewguard_library_close");
     open_libraries--;
     close(library);
+}
+
+int32_t skewguard_library_draw(const unsigned char *request, size_t length, unsigned char *reply, size_t capacity,
+                               size_t *reply_length)
+{
+    int32_t (*draw)(const unsigned char *, size_t, unsigned char *, size_t, size_t *);
+    *(void **)&draw = found("skewguard_library_draw");
+    return draw(request, length, reply, capacity, reply_length);
+}
+
+int32_t skewguard_journal_open(const char *path, const unsigned char *request, size_t length, void **journal,
+                               int *error)
+{
+    int32_t (*open)(const char *, const unsigned char *, size_t, void **, int *);
+    *(void **)&open = found("skewguard_journal_open");
+    return open(path, request, length, journal, error);
+}
+
+int32_t skewguard_journal_call(void *journal, uint32_t operation, const unsigned char *request, size_t length,
+                               unsigned char *reply, size_t capacity, size_t *reply_length)
+{
+    int32_t (*call)(void *, uint32_t, const unsigned char *, size_t, unsigned char *, size_t, size_t *);
+    *(void **)&call = found("skewguard_journal_call");
+    return call(journal, operation, request, length, reply, capacity, reply_length);
+}
+
+int32_t skewguard_journal_start(void *journal, uint32_t operation, const unsigned char *request, size_t length,
+                                unsigned char *reply, size_t capacity, size_t *reply_length)
+{
+    int32_t (*start)(void *, uint32_t, const unsigned char *, size_t, unsigned char *, size_t, size_t *);
+    *(void **)&start = found("skewguard_journal_start");
+    return start(journal, operation, request, length, reply, capacity, reply_length);
+}
+
+int skewguard_journal_take(void *journal)
+{
+    int (*take)(void *);
+    *(void **)&take = found("skewguard_journal_take");
+    return take(journal);
+}
+
+int skewguard_journal_make(const void *journal)
+{
+    int (*make)(const void *);
+    *(void **)&make = found("skewguard_journal_make");
+    return make(journal);
+}
+
+int skewguard_journal_made(void *journal, int error)
+{
+    int (*made)(void *, int);
+    *(void **)&made = found("skewguard_journal_made");
+    return made(journal, error);
+}
+
+size_t skewguard_journal_failure(int error, unsigned char *reply, size_t capacity)
+{
+    size_t (*failure)(int, unsigned char *, size_t);
+    *(void **)&failure = found("skewguard_journal_failure");
+    return failure(error, reply, capacity);
+}
+
+void skewguard_journal_close(void *journal)
+{
+    void (*close)(void *);
+    *(void **)&close = found("skewguard_journal_close");
+    close(journal);
 }

@@ -22,7 +22,7 @@ def read_rows() -> Dict[str, Row]:
     """The rows by their names."""
     rows: Dict[str, Dict[str, List[str]]] = {}
     current: Dict[str, List[str]] = {}
-    for line in Path(__file__).with_name("rows.txt").read_text(encoding="ascii").splitlines():
+    for line in Path(__file__).with_name("rows.txt").read_text(encoding="utf-8").splitlines():
         word, _, rest = line.partition(" ")
         if word == "row":
             current = rows[rest] = {}

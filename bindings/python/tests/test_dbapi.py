@@ -411,6 +411,27 @@ class Connections(unittest.TestCase):
         self.connection.commit()
         self.assertEqual(self.names(), ["E", "Redback"])
 
+    def test_executemany_of_more_than_a_call_has(self):
+        cursor, rows = self.connection.cursor(), [[f"B{place}"] for place in range(2500)]
+        self.assertEqual(cursor.executemany(INSERT, rows).rowcount, 2500)
+        self.connection.rollback()
+        rows[2100] = rows[7]
+        with self.assertRaises(dbapi.IntegrityError) as caught:
+            cursor.executemany(INSERT, tuple(rows))
+        self.assertEqual((caught.exception.place, cursor.execute(NAMES).rowcount), (2100, 2100))
+        self.connection.rollback()
+        for wrong in (["A", "B"], [7.5], 7):
+            with self.assertRaises((dbapi.Error, TypeError)):
+                cursor.executemany(INSERT, [["A"], wrong, ["C"]])
+            self.assertLess(cursor.execute(NAMES).rowcount, 2)
+            self.connection.rollback()
+
+    def test_executemany_by_autocommit(self):
+        connection = dbapi.connect(self.connection.manager, autocommit=True)
+        with self.assertRaises(dbapi.IntegrityError):
+            connection.cursor().executemany(INSERT, [["A"], ["A"], ["B"]])
+        self.assertEqual(self.names(), ["A"])
+
     def test_executemany_of_what_changes_no_rows(self):
         cursor = self.fill(["Redback"])
         for text in ("COMMIT", " rollback work", "--\nSELECT * FROM BOOZE", "SET CONSTRAINTS ALL IMMEDIATE", "BEGIN"):

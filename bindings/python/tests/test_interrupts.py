@@ -14,7 +14,8 @@ from unittest import mock
 
 import skewguard
 from skewguard import _engine
-from skewguard._layout import Operation, Status, number_bytes
+from skewguard._layout import number_bytes
+from skewguard._numbers import Operation, Status
 
 DEFINITIONS = """
 CREATE TABLE P (ID INTEGER PRIMARY KEY, N INTEGER);

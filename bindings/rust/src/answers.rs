@@ -3,7 +3,8 @@
 use std::ops::Index;
 use std::slice::Iter;
 
-use crate::layout::{kind, Reader};
+use crate::layout::Reader;
+use crate::numbers::kind;
 use crate::values::Value;
 
 /// The answer to a statement.
@@ -30,12 +31,17 @@ pub enum Answer {
 
 impl Answer {
     pub(crate) fn of(reply: &[u8]) -> Answer {
-        let mut reader = Reader::new(reply);
-        match reply.first().copied().unwrap_or_default() {
+        let kind = reply.first().copied().unwrap_or_default();
+        Answer::read(kind, &mut Reader::new(reply))
+    }
+
+    /// The answer in a reply of this kind, which the reader leaves behind it.
+    pub(crate) fn read(kind: u8, reader: &mut Reader<'_>) -> Answer {
+        match kind {
             kind::INSERTED => Answer::Inserted(reader.number()),
             kind::UPDATED => Answer::Updated(reader.number()),
             kind::DELETED => Answer::Deleted(reader.number()),
-            kind::ROWS => Answer::Rows(Rows::of(&mut reader)),
+            kind::ROWS => Answer::Rows(Rows::of(reader)),
             kind::VERDICT => Answer::Verdict(match reader.number() {
                 0 => Some(false),
                 1 => Some(true),
@@ -45,6 +51,10 @@ impl Answer {
             kind::ROLLED_BACK => Answer::RolledBack,
             _ => Answer::ModesSet,
         }
+    }
+
+    pub(crate) fn has_ended(&self) -> bool {
+        matches!(self, Answer::Committed(_) | Answer::RolledBack)
     }
 
     /// How many rows an INSERT, UPDATE or DELETE changed, or a SELECT lists; 0 for other statements.

@@ -2,6 +2,7 @@
 
 use std::fmt;
 
+use crate::answers::Answer;
 use crate::values::Value;
 
 /// Where an assertion is false.
@@ -23,8 +24,6 @@ pub enum Fault {
         line: usize,
         /// The character in it, from 1.
         column: usize,
-        /// The line, and below it a caret under the place.
-        drawn: String,
     },
     /// 19: too many parentheses are open there.
     TooDeep {
@@ -32,8 +31,6 @@ pub enum Fault {
         line: usize,
         /// The character in it, from 1.
         column: usize,
-        /// The line, and below it a caret under the place.
-        drawn: String,
     },
     /// 3: nothing has this name.
     UnknownName {
@@ -127,6 +124,8 @@ pub enum Fault {
     ReadOnlyTransaction,
     /// 24: 256 transactions are open, as many as may be at once.
     TooManySessions,
+    /// 25: the commit could not be kept in the journal (58030). Nothing has changed, and its transaction is open.
+    NotKept,
     /// A number that this crate does not know.
     Other,
 }
@@ -142,6 +141,9 @@ pub struct Refusal {
     pub fault: Fault,
     /// The line that `skewguard replay` prints for it.
     pub report: String,
+    /// Where in its text the fault lies, and what may stand there or how else to say it, as `skewguard check` shows it.
+    /// Empty where the text has no such fault, as where rows or other transactions were in the way.
+    pub explanation: String,
 }
 
 /// Why a call gave nothing.
@@ -167,7 +169,7 @@ pub enum Error {
         /// The parameter, from 1.
         parameter: u64,
     },
-    /// A text with a character that is none of printable ASCII. Nothing was run.
+    /// A text with a control character of ASCII. Nothing was run.
     TextNotPlain {
         /// The parameter, from 1.
         parameter: u64,
@@ -193,6 +195,10 @@ pub enum Error {
     },
     /// The transaction has ended: COMMIT or ROLLBACK was run in it as a text.
     Ended,
+    /// A journal can't be opened, or a call on its file failed.
+    Journal(JournalFault),
+    /// The manager keeps a journal, and makes no checkpoint: `skewguard checkpoint` makes one of its file.
+    Journaled,
     /// The library is another one than this crate was written for.
     OtherLibrary {
         /// The number of its layout.
@@ -203,6 +209,50 @@ pub enum Error {
         /// The status of the call.
         status: i32,
     },
+}
+
+/// What is wrong with a journal.
+#[derive(Clone, Debug, PartialEq, Eq)]
+#[non_exhaustive]
+pub enum JournalFault {
+    /// The system refused a call on the file. Where that was no call that opened it, nothing is answered any more: open
+    /// it again. Whether a COMMIT that was answered so was kept is known then.
+    File {
+        /// Its `errno`, which `std::io::Error::from_raw_os_error` takes.
+        errno: i32,
+    },
+    /// The file does not begin as a journal.
+    NoJournal,
+    /// It is of other definitions: `skewguard checkpoint` takes these for what it holds.
+    OfOthers,
+    /// A commit is missing.
+    Damaged {
+        /// Its number.
+        commit: u64,
+        /// Where its line begins in the file.
+        byte: u64,
+    },
+    /// A commit is none of these tables.
+    NotDue {
+        /// Its number.
+        commit: u64,
+    },
+}
+
+impl fmt::Display for JournalFault {
+    fn fmt(&self, to: &mut fmt::Formatter<'_>) -> fmt::Result {
+        match self {
+            JournalFault::File { errno } => std::io::Error::from_raw_os_error(*errno).fmt(to),
+            JournalFault::NoJournal => to.write_str("the file is no journal: it does not begin with the line of one"),
+            JournalFault::OfOthers => to.write_str("the journal is of other definitions"),
+            JournalFault::Damaged { commit, byte } => {
+                write!(to, "the journal is damaged at byte {byte}: commit {commit} is missing")
+            }
+            JournalFault::NotDue { commit } => {
+                write!(to, "the journal is damaged: commit {commit} is none of these tables")
+            }
+        }
+    }
 }
 
 impl Error {
@@ -220,9 +270,10 @@ impl Error {
     }
 
     /// Whether a transaction has ended by it: a COMMIT that was refused for its rules, for others, or for a full
-    /// epoch.
+    /// epoch, or that no disk has taken.
     pub(crate) fn has_ended(&self) -> bool {
         match self {
+            Error::Journal(_) => true, // nothing is answered any more
             Error::Refused(refusal) => {
                 matches!(refusal.sqlstate.as_deref(), Some("40001" | "40002")) || refusal.fault == Fault::EpochFull
             }
@@ -251,7 +302,7 @@ impl fmt::Display for Error {
             Error::TextNotPlain { parameter, character } => {
                 write!(
                     to,
-                    "value {parameter}: its character {character} is none of printable ASCII, of which texts are"
+                    "value {parameter}: its character {character} is a control character, which stands in no text"
                 )
             }
             Error::NullNotAllowed { parameter } => {
@@ -260,6 +311,8 @@ impl fmt::Display for Error {
             Error::BadSessionName { name } => write!(to, "{name:?} is no name of a session: {NAMES}"),
             Error::BadRuleName => write!(to, "a name to drop is that of no rule: {NAMES}"),
             Error::Ended => to.write_str("the transaction has ended"),
+            Error::Journal(fault) => fault.fmt(to),
+            Error::Journaled => to.write_str("a manager that keeps a journal makes no checkpoint"),
             Error::NameTaken { name } => write!(to, "the manager handed the session {name} out by itself"),
             Error::OtherLibrary { layout } => {
                 write!(to, "the library has the layout {layout}: it is another one than this crate was written for")
@@ -271,12 +324,21 @@ impl fmt::Display for Error {
 
 impl fmt::Display for Refusal {
     fn fmt(&self, to: &mut fmt::Formatter<'_>) -> fmt::Result {
+        self.say(to)?;
+        match self.explanation.as_str() {
+            "" => Ok(()),
+            shown => write!(to, "\n{shown}"),
+        }
+    }
+}
+
+impl Refusal {
+    /// What is wrong, in a few words.
+    fn say(&self, to: &mut fmt::Formatter<'_>) -> fmt::Result {
         match &self.fault {
-            Fault::Syntax { line, column, drawn } => {
-                write!(to, "the text stops being one of the language at line {line}, column {column}\n{drawn}")
-            }
-            Fault::TooDeep { line, column, drawn } => {
-                write!(to, "parentheses nest too deep at line {line}, column {column}\n{drawn}")
+            Fault::Syntax { line, column } => write!(to, "syntax error at line {line}, column {column}"),
+            Fault::TooDeep { line, column } => {
+                write!(to, "parentheses nest too deep at line {line}, column {column}")
             }
             Fault::UnknownName { name } => write!(to, "nothing has the name {name}"),
             Fault::NameTaken { name } => write!(to, "the name {name} is taken"),
@@ -311,6 +373,7 @@ impl fmt::Display for Refusal {
             Fault::AttributeClash { rule } => write!(to, "the attributes of {rule} exclude each other"),
             Fault::ReadOnlyTransaction => to.write_str("the transaction is READ ONLY"),
             Fault::TooManySessions => to.write_str("too many transactions are open at once: there may be 256"),
+            Fault::NotKept => to.write_str("the commit could not be kept in the journal: its transaction is open"),
             Fault::Other => to.write_str(&self.report),
         }
     }
@@ -331,53 +394,88 @@ fn party(number: Option<u64>) -> String {
 
 impl Fault {
     pub(crate) fn syntax(text: &str, offset: usize) -> Fault {
-        let (line, column, drawn) = drawn(text, offset);
-        Fault::Syntax { line, column, drawn }
+        let (line, column) = place_of(text, offset);
+        Fault::Syntax { line, column }
     }
 
     pub(crate) fn too_deep(text: &str, offset: usize) -> Fault {
-        let (line, column, drawn) = drawn(text, offset);
-        Fault::TooDeep { line, column, drawn }
+        let (line, column) = place_of(text, offset);
+        Fault::TooDeep { line, column }
+    }
+
+    /// Whether it lies in a text by itself, or beside the definitions, so that it can be shown there.
+    pub(crate) fn is_of_text(&self) -> bool {
+        matches!(
+            self,
+            Fault::Syntax { .. }
+                | Fault::TooDeep { .. }
+                | Fault::UnknownName { .. }
+                | Fault::NameTaken { .. }
+                | Fault::TypeMismatch
+                | Fault::KeyUpdate { .. }
+                | Fault::NotDeferrable { .. }
+                | Fault::TooWide
+                | Fault::OutsideClass
+                | Fault::AttributeClash { .. }
+        )
     }
 }
 
-/// So many characters of a line stand above a caret.
-const SHOWN: usize = 110;
-
-/// Line and column of an offset in bytes, each from 1, and the line, or the part of a long one that lies around it,
-/// with a caret under the place.
-fn drawn(text: &str, offset: usize) -> (usize, usize, String) {
+/// Line and column of an offset in bytes, each from 1.
+fn place_of(text: &str, offset: usize) -> (usize, usize) {
     let mut at = offset.min(text.len());
     while !text.is_char_boundary(at) {
         at -= 1;
     }
-    let (before, behind) = text.split_at(at);
-    let line = before.matches('\n').count() + 1;
+    let before = &text[..at];
     let front = before.rsplit('\n').next().unwrap_or_default();
-    let rest = behind.split('\n').next().unwrap_or_default();
-    let column = front.chars().count() + 1;
-    let start = (column - 1).saturating_sub(SHOWN / 2);
-    let whole = || front.chars().chain(rest.chars()).skip(start).take(SHOWN);
-    let shown: String = whole().map(|it| if it.is_control() && it != '\t' { '?' } else { it }).collect();
-    let indent: String = whole().take(column - 1 - start).map(|it| if it == '\t' { '\t' } else { ' ' }).collect();
-    (line, column, format!("  {}\n  {indent}^", shown.trim_end()))
+    (before.matches('\n').count() + 1, front.chars().count() + 1)
 }
 
 #[cfg(test)]
 mod tests {
-    use super::drawn;
+    use super::place_of;
 
     #[test]
-    fn a_caret_stands_under_the_place() {
-        assert_eq!(drawn("SELEKT", 0), (1, 1, "  SELEKT\n  ^".to_owned()));
-        assert_eq!(drawn("A\n\tB é C\nD", 8), (2, 6, "  \tB é C\n  \t    ^".to_owned()));
-        assert_eq!(drawn("", 0), (1, 1, "  \n  ^".to_owned()));
+    fn places_are_counted_in_characters() {
+        assert_eq!(place_of("SELEKT", 0), (1, 1));
+        assert_eq!(place_of("A\n\tB é C\nD", 8), (2, 6));
+        assert_eq!(place_of("", 0), (1, 1));
     }
+}
 
-    #[test]
-    fn a_long_line_is_shown_in_part() {
-        let (line, column, picture) = drawn(&"x".repeat(10_000), 5_000);
-        assert_eq!((line, column), (1, 5_001));
-        assert!(picture.lines().all(|it| it.len() <= 112), "{picture}");
+/// A statement that was not done, in a call that runs several.
+#[derive(Clone, Debug, PartialEq, Eq)]
+pub struct StepFault {
+    /// Which it is, from 0; none where it is no statement that was refused, as COMMIT.
+    pub place: Option<usize>,
+    /// The answers to the statements before it.
+    pub answers: Vec<Answer>,
+    /// Why.
+    pub error: Error,
+}
+
+impl fmt::Display for StepFault {
+    fn fmt(&self, to: &mut fmt::Formatter<'_>) -> fmt::Result {
+        match self.place {
+            Some(place) => write!(to, "statement {place}: {}", self.error),
+            None => self.error.fmt(to),
+        }
+    }
+}
+
+impl std::error::Error for StepFault {}
+
+/// A fault of no statement.
+impl From<Error> for StepFault {
+    fn from(error: Error) -> StepFault {
+        StepFault { place: None, answers: Vec::new(), error }
+    }
+}
+
+/// The error alone.
+impl From<StepFault> for Error {
+    fn from(fault: StepFault) -> Error {
+        fault.error
     }
 }

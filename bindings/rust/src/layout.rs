@@ -1,53 +1,8 @@
 //! The bytes of requests and replies, as `skewguard.h` lays them out.
 
-use crate::errors::{Error, Fault, Refusal, Root};
+use crate::errors::{Error, Fault, JournalFault, Refusal, Root};
+use crate::numbers::kind;
 use crate::values::Value;
-
-/// The layout that this crate was written for, by its number.
-pub const LAYOUT: u64 = 1;
-
-/// What a call asks for.
-#[derive(Clone, Copy, PartialEq, Eq)]
-pub enum Operation {
-    Again = 0,
-    Line = 1,
-    OpenSession = 2,
-    CloseSession = 3,
-    Prepare = 4,
-    Forget = 5,
-    Run = 6,
-    Begin = 8,
-    BeginReadOnly = 9,
-    Commit = 10,
-    Rollback = 11,
-    Report = 12,
-    Checkpoint = 13,
-}
-
-/// What became of a call.
-pub mod status {
-    pub const DONE: i32 = 0;
-    pub const REFUSED: i32 = 1;
-    pub const NO_MEMORY: i32 = 2;
-    pub const REPLY_WAITS: i32 = 3;
-    pub const WRONG_COUNT: i32 = 7;
-    pub const BAD_VALUE: i32 = 8;
-    pub const BAD_NAME: i32 = 9;
-}
-
-/// What a reply is of: its first byte.
-pub mod kind {
-    pub const OPENED: u8 = 1;
-    pub const COMMITTED: u8 = 6;
-    pub const ROLLED_BACK: u8 = 7;
-    pub const INSERTED: u8 = 8;
-    pub const UPDATED: u8 = 9;
-    pub const DELETED: u8 = 10;
-    pub const ROWS: u8 = 11;
-    pub const VERDICT: u8 = 13;
-    pub const TEXT: u8 = 14;
-    pub const MISUSED: u8 = 16;
-}
 
 pub fn add_number(request: &mut Vec<u8>, number: u64) {
     request.extend_from_slice(&number.to_le_bytes());
@@ -83,6 +38,16 @@ impl<'a> Reader<'a> {
     /// A reader of what stands behind the kind.
     pub fn new(reply: &'a [u8]) -> Reader<'a> {
         Reader { bytes: reply.get(1..).unwrap_or_default() }
+    }
+
+    /// The reply that comes next, of several, and all behind it.
+    pub fn rest(&self) -> &'a [u8] {
+        self.bytes
+    }
+
+    /// The kind of the reply that comes next.
+    pub fn kind(&mut self) -> u8 {
+        self.take(1).first().copied().unwrap_or(kind::NOTHING)
     }
 
     fn take(&mut self, length: usize) -> &'a [u8] {
@@ -122,7 +87,7 @@ impl<'a> Reader<'a> {
     }
 }
 
-/// The error of a refusal. A fault in a text is shown in that text.
+/// The error of a refusal, with the place of a fault in its text.
 pub fn refusal(reply: &[u8], text: &str) -> Error {
     let mut reader = Reader::new(reply);
     let number = reader.number() as u32;
@@ -161,8 +126,21 @@ pub fn refusal(reply: &[u8], text: &str) -> Error {
         22 => Fault::AttributeClash { rule: name },
         23 => Fault::ReadOnlyTransaction,
         24 => Fault::TooManySessions,
+        25 => Fault::NotKept,
         _ => Fault::Other,
     };
     let sqlstate = (!sqlstate.is_empty()).then_some(sqlstate);
-    Error::Refused(Box::new(Refusal { number, sqlstate, fault, report }))
+    Error::Refused(Box::new(Refusal { number, sqlstate, fault, report, explanation: String::new() }))
+}
+
+/// The fault of a journal that was not opened, by the bytes that say it.
+pub fn journal_fault(reply: &[u8]) -> JournalFault {
+    let mut reader = Reader::new(reply);
+    let (reason, commit, byte) = (reader.number(), reader.number(), reader.number());
+    match reason {
+        2 => JournalFault::OfOthers,
+        3 => JournalFault::Damaged { commit, byte },
+        4 => JournalFault::NotDue { commit },
+        _ => JournalFault::NoJournal,
+    }
 }

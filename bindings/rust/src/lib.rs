@@ -42,9 +42,10 @@ mod errors;
 mod layout;
 mod library;
 mod manager;
+mod numbers;
 mod values;
 
 pub use answers::{Answer, Rows};
-pub use errors::{Error, Fault, Refusal, Root};
+pub use errors::{Error, Fault, JournalFault, Refusal, Root, StepFault};
 pub use manager::{CommitFault, Manager, Options, Transaction, TransactionBuilder};
 pub use values::Value;

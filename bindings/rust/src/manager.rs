@@ -1,21 +1,27 @@
 //! The manager, and transactions on it.
 
 use std::fmt;
-use std::sync::{Mutex, MutexGuard, PoisonError};
+use std::path::PathBuf;
+use std::sync::{Condvar, Mutex, MutexGuard, PoisonError};
 
 use crate::answers::Answer;
-use crate::errors::Error;
+use crate::errors::{Error, StepFault};
 use crate::library::{Library, Seat, Trace};
 use crate::values::Value;
 
 /// At most so many commits, where nothing else is said.
 const MAX_COMMITS: u32 = 1_000_000;
 
+/// A transaction of more statements is made by a call for each: not all of them might be kept prepared at once.
+const MOST_STEPS: usize = 200;
+
 /// Tables in memory, with assertions that no committed tables make false, and transactions that have a serial order.
 ///
-/// Threads may share it: each call takes the lock that lies within, for its own time alone.
+/// Threads may share it: each call takes the lock that lies within, for its own time alone. With a journal a call waits
+/// for the disk without the lock, and those that wait share a sync.
 pub struct Manager {
     library: Mutex<Library>,
+    synced: Condvar,
 }
 
 /// How a manager is opened.
@@ -32,6 +38,7 @@ pub struct Manager {
 /// ```
 #[derive(Default)]
 pub struct Options {
+    journal: Option<PathBuf>,
     max_commits: Option<u32>,
     trace: Option<Trace>,
 }
@@ -40,6 +47,14 @@ impl Options {
     /// A million commits, and no trace.
     pub fn new() -> Options {
         Options::default()
+    }
+
+    /// With a journal in this file, which is made where there is none: each COMMIT is on the disk before it is
+    /// answered, and the next manager goes on from there. The tables are then those that the file holds, and the rows
+    /// of the definitions are passed over. No other process may have it open.
+    pub fn journal(mut self, path: impl Into<PathBuf>) -> Options {
+        self.journal = Some(path.into());
+        self
     }
 
     /// At most so many commits, until a checkpoint begins a new epoch.
@@ -55,10 +70,12 @@ impl Options {
         self
     }
 
-    /// A manager on what the definitions define: as [`Manager::open`].
+    /// A manager on what the definitions define: as [`Manager::open`]. With a journal also [`Error::Journal`], where
+    /// its file can't be opened, is damaged or of other definitions.
     pub fn open(self, definitions: &str) -> Result<Manager, Error> {
-        let library = Library::open(definitions, self.max_commits.unwrap_or(MAX_COMMITS), self.trace)?;
-        Ok(Manager { library: Mutex::new(library) })
+        let max_commits = self.max_commits.unwrap_or(MAX_COMMITS);
+        let library = Library::open(definitions, self.journal.as_deref(), max_commits, self.trace)?;
+        Ok(Manager { library: Mutex::new(library), synced: Condvar::new() })
     }
 }
 
@@ -89,19 +106,51 @@ impl Manager {
     /// ([`Fault::TransactionOpen`](crate::Fault::TransactionOpen)), and for what [`open`](Manager::open) is refused
     /// for; nothing has changed then.
     pub fn checkpoint(&self, create: &str, drop: &[&str]) -> Result<String, Error> {
-        self.library().checkpoint(create, drop)
+        self.ask(|library| library.checkpoint(create, drop))
     }
 
     /// The closing part of the report: the commits, their serial order, the refused COMMITs, and each assertion's
     /// truth.
     pub fn report(&self) -> Result<String, Error> {
-        self.library().report()
+        self.ask(|library| library.report())
     }
 
     /// The library, under its lock. A thread that panicked there had a trace that did: what the library holds is
     /// whole.
     fn library(&self) -> MutexGuard<'_, Library> {
         self.library.lock().unwrap_or_else(PoisonError::into_inner)
+    }
+
+    /// What a call of the library answers, once all that it tells of is on the disk.
+    fn ask<T, E: From<Error>>(&self, call: impl FnOnce(&mut Library) -> Result<T, E>) -> Result<T, E> {
+        let mut library = self.library();
+        let answer = call(&mut library);
+        let number = library.count_call();
+        while library.must_wait(number) {
+            library = if library.is_syncing() {
+                self.synced.wait(library).unwrap_or_else(PoisonError::into_inner)
+            } else {
+                self.sync(library)
+            };
+        }
+        match library.failure() {
+            None => answer,
+            Some(error) => Err(error.into()),
+        }
+    }
+
+    /// Syncs for all calls so far, without the lock.
+    fn sync<'m>(&'m self, mut library: MutexGuard<'m, Library>) -> MutexGuard<'m, Library> {
+        let (calls, sync) = library.begin_sync();
+        let mut error = 0;
+        if let Some(sync) = sync {
+            drop(library);
+            error = sync.make();
+            library = self.library();
+        }
+        library.end_sync(calls, error);
+        self.synced.notify_all();
+        library
     }
 }
 
@@ -142,8 +191,56 @@ impl<'m, 's> TransactionBuilder<'m, 's> {
 
     /// Begins it.
     pub fn begin(self) -> Result<Transaction<'m>, Error> {
-        let (seat, snapshot) = self.manager.library().begin(self.session, self.read_only)?;
+        let (seat, snapshot) = self.manager.ask(|library| library.begin(self.session, self.read_only))?;
         Ok(Transaction { manager: self.manager, seat: Some(seat), snapshot })
+    }
+
+    /// A whole transaction of these statements with their values, made in one call: the number of its commit, and the
+    /// answer to each statement.
+    ///
+    /// ```
+    /// # use skewguard::{values, Manager};
+    /// # let manager = Manager::open("CREATE TABLE T (ID INTEGER PRIMARY KEY, N INTEGER);")?;
+    /// let (commit, answers) = manager.transaction().retry(3).run_steps(&[
+    ///     ("INSERT INTO T VALUES (?, ?)", values![1, 10].into()),
+    ///     ("UPDATE T SET N = N + 1 WHERE ID = ?", values![1].into()),
+    /// ])?;
+    /// assert_eq!((commit, answers.len()), (1, 2));
+    /// # Ok::<(), skewguard::Error>(())
+    /// ```
+    ///
+    /// It begins, runs the statements as [`Transaction::execute`] does, and commits. The first statement that is
+    /// refused is the fault; none is run behind it, and the transaction is rolled back. Where others were in the way of
+    /// its COMMIT, the whole is run again, as by [`run`](TransactionBuilder::run).
+    pub fn run_steps(self, steps: &[(&str, Vec<Value>)]) -> Result<(u64, Vec<Answer>), StepFault> {
+        for left in (0..=self.retry).rev() {
+            let answered = if self.read_only || steps.len() > MOST_STEPS {
+                self.run_each(steps)
+            } else {
+                self.manager.ask(|library| library.transact(self.session, steps))
+            };
+            match answered {
+                Err(fault) if left > 0 && fault.error.is_retryable() => {}
+                answered => return answered,
+            }
+        }
+        unreachable!("the last attempt returns")
+    }
+
+    /// The same by a call for each of its events.
+    fn run_each(self, steps: &[(&str, Vec<Value>)]) -> Result<(u64, Vec<Answer>), StepFault> {
+        let mut transaction = self.begin()?;
+        let mut answers = Vec::with_capacity(steps.len());
+        for (place, (sql, values)) in steps.iter().enumerate() {
+            match transaction.execute(sql, values) {
+                Ok(answer) => answers.push(answer),
+                Err(error) => return Err(StepFault { place: Some(place), answers, error }),
+            }
+        }
+        match transaction.commit() {
+            Ok(number) => Ok((number, answers)),
+            Err(fault) => Err(StepFault { place: None, answers, error: fault.error }),
+        }
     }
 
     /// What the function gives, called with a transaction, once that transaction has committed.
@@ -215,22 +312,53 @@ impl<'m> Transaction<'m> {
     /// it, as the calls do, and what is run behind them is [`Error::Ended`].
     pub fn execute(&mut self, sql: &str, values: &[Value]) -> Result<Answer, Error> {
         let seat = self.seat.as_ref().ok_or(Error::Ended)?;
-        let mut library = self.manager.library();
-        let answer = library.run(seat, sql, values).map(Answer::of);
-        let has_ended = match &answer {
-            Ok(answer) => matches!(answer, Answer::Committed(_) | Answer::RolledBack),
-            Err(error) => error.has_ended(),
-        };
-        if has_ended {
-            library.give_back(seat);
-        } else if answer == Err(Error::ReplyLost) {
-            library.lose(seat);
-        } else {
-            return answer;
+        let mut is_over = false;
+        let answer = self.manager.ask(|library| {
+            let answer = library.run(seat, sql, values).map(Answer::of);
+            let (has_ended, error) = match &answer {
+                Ok(answer) => (answer.has_ended(), None),
+                Err(error) => (error.has_ended(), Some(error)),
+            };
+            is_over = library.note_end(seat, has_ended, error);
+            answer
+        });
+        if is_over {
+            self.seat = None;
         }
-        drop(library);
-        self.seat = None;
         answer
+    }
+
+    /// Runs a statement once with each of these rows of values, in one call: each as
+    /// [`execute`](Transaction::execute) runs it.
+    ///
+    /// ```
+    /// # use skewguard::{values, Manager};
+    /// # let manager = Manager::open("CREATE TABLE T (ID INTEGER PRIMARY KEY, N INTEGER);")?;
+    /// let mut t = manager.begin()?;
+    /// let answers = t.run_all("INSERT INTO T VALUES (?, ?)", &[values![1, 10], values![2, 20]])?;
+    /// assert_eq!(answers.len(), 2);
+    /// # Ok::<(), skewguard::Error>(())
+    /// ```
+    ///
+    /// The first that is refused, or whose values the statement does not take, is the fault; those before it have been,
+    /// and none is run behind it.
+    pub fn run_all<R: AsRef<[Value]>>(&mut self, sql: &str, rows: &[R]) -> Result<Vec<Answer>, StepFault> {
+        let seat = self.seat.as_ref().ok_or(Error::Ended)?;
+        let mut is_over = false;
+        let answers = self.manager.ask(|library| {
+            let answers = library.run_all(seat, sql, rows);
+            let (done, error) = match &answers {
+                Ok(answers) => (answers, None),
+                Err(fault) => (&fault.answers, Some(&fault.error)),
+            };
+            let has_ended = done.iter().any(Answer::has_ended) || error.is_some_and(Error::has_ended);
+            is_over = library.note_end(seat, has_ended, error);
+            answers
+        });
+        if is_over {
+            self.seat = None;
+        }
+        answers
     }
 
     /// How an assertion stands on the transaction's own tables; none for unknown.
@@ -247,7 +375,7 @@ impl<'m> Transaction<'m> {
         let Some(seat) = self.seat.take() else {
             return Err(CommitFault { error: Error::Ended, transaction: None });
         };
-        let answer = self.manager.library().commit(&seat);
+        let answer = self.manager.ask(|library| library.commit(&seat));
         answer.map_err(|error| match error {
             Error::NoMemory => {
                 self.seat = Some(seat);
@@ -260,7 +388,7 @@ impl<'m> Transaction<'m> {
     /// Ends the transaction, and nothing of it is left.
     pub fn rollback(mut self) -> Result<(), Error> {
         match self.seat.take() {
-            Some(seat) => self.manager.library().rollback(&seat),
+            Some(seat) => self.manager.ask(|library| library.rollback(&seat)),
             None => Err(Error::Ended),
         }
     }

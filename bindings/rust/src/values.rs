@@ -9,7 +9,7 @@ pub enum Value {
     Null,
     /// A whole number, from -10^15 to 10^15.
     Int(i64),
-    /// A text of printable ASCII.
+    /// A text, without control characters of ASCII.
     Text(String),
 }
 

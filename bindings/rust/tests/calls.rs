@@ -2,7 +2,7 @@
 
 use std::collections::HashSet;
 use std::sync::atomic::{AtomicUsize, Ordering};
-use std::sync::Barrier;
+use std::sync::{Arc, Barrier, Mutex};
 use std::thread;
 
 use skewguard::{values, Answer, Error, Fault, Manager, Options, Root, Transaction, Value};
@@ -229,7 +229,7 @@ fn each_error_has_words() {
     ];
     let words: Vec<String> = errors.iter().map(ToString::to_string).collect();
     assert_eq!(words.iter().collect::<HashSet<_>>().len(), errors.len(), "{words:?}");
-    assert_eq!(words[4], "value 2: its character 4 is none of printable ASCII, of which texts are");
+    assert_eq!(words[4], "value 2: its character 4 is a control character, which stands in no text");
     assert!(words[6].starts_with("\"A B\" is no name of a session: a name is a letter"), "{}", words[6]);
 }
 
@@ -244,6 +244,8 @@ fn values_come_back_as_they_were_given() {
         values![0, most, "'; DELETE FROM T; --"],
         values![1, -most, "?"],
         values![2, Value::Null, Value::Null],
+        values![3, 1, "\u{17d}ofie \u{65e5}\u{672c}\u{8a9e} \u{1f600}"],
+        values![4, 1, "\u{e9}".repeat(20)],
         values![most, 7, " \"\\ NULL "],
     ];
     for row in &given {
@@ -263,7 +265,7 @@ fn values_that_do_not_suit() {
         let answer = t.execute(INSERT, &values![3, number, 0]);
         assert_eq!(answer, Err(Error::NumberOutOfRange { parameter: 2 }), "{number}");
     }
-    for (text, character) in [("Ren\u{e9}", 4), ("a\nb", 2), ("\0", 1), ("\u{7f}", 1)] {
+    for (text, character) in [("Ren\u{e9}\t", 5), ("a\nb", 2), ("\0", 1), ("\u{7f}", 1)] {
         let answer = t.execute(INSERT, &values![3, text, 0]);
         assert_eq!(answer, Err(Error::TextNotPlain { parameter: 2, character }), "{text:?}");
     }
@@ -284,11 +286,11 @@ fn a_fault_in_a_text_has_its_place() {
         other => panic!("{other:?}"),
     };
     let error = t.execute("SELECT *\n\tFORM DUTY", &[]).unwrap_err();
-    let shown = "the text stops being one of the language at line 2, column 2\n  \tFORM DUTY\n  \t^";
-    assert_eq!(error.to_string(), shown);
+    let shown = error.to_string();
+    assert!(shown.starts_with("syntax error at line 2, column 2\nfault 2: `FORM` may not stand here\n"), "{shown}");
     assert_eq!(place(fault_of(t.execute("", &[]))), (1, 1));
-    assert_eq!(place(fault_of(t.execute("SELECT * FROM DUTY;", &[]))), (1, 19));
-    assert_eq!(place(fault_of(t.execute("SELECT * FROM DUTY WHERE DOCTOR = 'Ren\u{e9}'", &[]))), (1, 35));
+    assert_eq!(place(fault_of(t.execute("SELECT * FROM DUTY;;", &[]))), (1, 19));
+    assert_eq!(place(fault_of(t.execute("SELECT * FROM DUTY WHERE DOCTOR = 'Ren\u{e9}\t'", &[]))), (1, 35));
     let deep = format!("DELETE FROM DUTY WHERE {}", "(".repeat(70));
     assert_eq!(place(fault_of(t.execute(&deep, &[]))), (1, 88));
     let definitions = fault_of(Manager::open("CREATE TABLE T (\n    ID INTEGR PRIMARY KEY\n);"));
@@ -356,4 +358,102 @@ fn threads_share_a_manager() {
     });
     let answer = manager.transaction().run(|t| t.execute("SELECT V FROM T", &[])).unwrap();
     assert_eq!(answer.rows().unwrap()[0], values![400]);
+}
+
+/// A statement may end with its `;`, and a second behind it is a fault with its place.
+#[test]
+fn a_statement_may_have_its_end() {
+    let manager = opened();
+    let mut t = manager.begin().unwrap();
+    for end in [";", " ;", ";\n", " ; -- all of it; really", "--'\n;--'"] {
+        let found = t.execute(&format!("SELECT ID FROM DUTY WHERE ID = ?{end}"), &values![2]).unwrap();
+        assert_eq!(found.count(), 1);
+    }
+    for (text, wanted) in
+        [("SELECT ID FROM DUTY; DELETE FROM DUTY;", 20_usize), ("SELECT ID FROM DUTY;;", 20), (";", 1)]
+    {
+        match t.execute(text, &[]).unwrap_err().fault() {
+            Some(Fault::Syntax { line: 1, column, .. }) => assert_eq!(*column, wanted, "{text}"),
+            fault => panic!("{fault:?}"),
+        }
+    }
+    assert_eq!(t.execute("COMMIT;", &[]), Ok(Answer::Committed(1)));
+}
+
+/// One statement with many rows of values: the first that is not done is the last.
+#[test]
+fn many_rows() {
+    let told = Arc::new(Mutex::new(Vec::new()));
+    let lines = Arc::clone(&told);
+    let trace = move |line: &str| lines.lock().unwrap().push(line.to_owned());
+    let manager = Options::new().trace(trace).open("CREATE TABLE T (ID INTEGER PRIMARY KEY, N INTEGER);").unwrap();
+    let insert = "INSERT INTO T VALUES (?, ?)";
+    let mut t = manager.transaction().session("KIM").begin().unwrap();
+    let rows: Vec<[Value; 2]> = (0..1000).map(|place| values![place, 2 * place]).collect();
+    assert_eq!(t.run_all(insert, &rows), Ok(vec![Answer::Inserted(1); 1000]));
+    assert_eq!(told.lock().unwrap().len(), 1001);
+    assert_eq!(t.run_all(insert, &[] as &[[Value; 2]]), Ok(Vec::new()));
+    let found = t.run_all("SELECT N FROM T WHERE ID = ?;", &[values![7], values![2000]]).unwrap();
+    assert_eq!(found.iter().map(Answer::count).collect::<Vec<u64>>(), [1, 0]);
+    assert_eq!(found[0].rows().unwrap()[0], values![14]);
+
+    let fault = t.run_all(insert, &[values![1000, 0], values![7, 0], values![1001, 0]]).unwrap_err();
+    assert_eq!((fault.place, fault.answers), (Some(1), vec![Answer::Inserted(1)]));
+    assert!(matches!(fault.error.fault(), Some(Fault::DuplicateKey { key: Value::Int(7), .. })));
+    let fault = t.run_all(insert, &[vec![1002.into(), 0.into()], vec![1.into()]]).unwrap_err();
+    assert_eq!((fault.place, fault.error), (Some(1), Error::WrongCount { wanted: 2, given: 1 }));
+    let fault = t.run_all(insert, &[values![1003, "\u{7f}"]]).unwrap_err();
+    assert_eq!((fault.place, fault.error), (Some(0), Error::TextNotPlain { parameter: 2, character: 1 }));
+    assert_eq!(t.run_all("SELEKT", &[[]]).unwrap_err().place, Some(0));
+    assert_eq!(t.execute("SELECT * FROM T", &[]).unwrap().count(), 1002);
+    let fault = t.run_all("COMMIT", &[[], []]).unwrap_err();
+    assert_eq!((fault.place, fault.answers), (Some(1), vec![Answer::Committed(1)]));
+    assert_eq!(t.run_all(insert, &rows).unwrap_err().error, Error::Ended);
+}
+
+/// Whole transactions in one call each.
+#[test]
+fn transactions_of_one_call() {
+    let manager = opened();
+    let leave = "UPDATE DUTY SET ONCALL = 0 WHERE ID = ?";
+    let step = |key: i64| (leave, values![key].into());
+    let all = || (ALL, Vec::new());
+    let done = manager.transaction().session("KIM").run_steps(&[step(2), all()]).unwrap();
+    assert_eq!((done.0, done.1[0].clone(), done.1[1].count()), (1, Answer::Updated(1), 2));
+    let fault = manager.transaction().run_steps(&[all(), step(1)]).unwrap_err();
+    assert_eq!((fault.place, fault.answers.len()), (Some(1), 1));
+    assert!(matches!(fault.error.fault(), Some(Fault::RuleViolated { .. })));
+    assert!(fault.to_string().starts_with("statement 1: "));
+    let fault = manager.transaction().run_steps(&[step(2), (leave, Vec::new())]).unwrap_err();
+    assert_eq!((fault.place, fault.error), (Some(1), Error::WrongCount { wanted: 1, given: 0 }));
+    let fault = manager.transaction().read_only().run_steps(&[step(2)]).unwrap_err();
+    assert!(matches!(fault.error.fault(), Some(Fault::ReadOnlyTransaction)));
+
+    let open = manager.transaction().session("KIM").begin().unwrap();
+    let fault = manager.transaction().session("KIM").run_steps(&[step(2)]).unwrap_err();
+    assert!(matches!((fault.place, fault.error.fault()), (None, Some(Fault::TransactionOpen))));
+    assert_eq!(open.commit().unwrap(), 2);
+    assert_eq!(manager.transaction().run_steps(&[]), Ok((3, Vec::new())));
+
+    let many: Vec<(&str, Vec<Value>)> = (0..300).map(|_| step(2)).collect();
+    assert_eq!(manager.transaction().run_steps(&many).unwrap().1.len(), 300);
+}
+
+/// Threads that change one row by transactions of one call are never in each other's way.
+#[test]
+fn transactions_of_one_call_on_threads() {
+    let definitions = "CREATE TABLE T (ID INTEGER PRIMARY KEY, N INTEGER); INSERT INTO T VALUES (1, 0);";
+    let manager = Manager::open(definitions).unwrap();
+    let add = [("UPDATE T SET N = N + 1 WHERE ID = ?", values![1].into())];
+    thread::scope(|scope| {
+        for _ in 0..4 {
+            scope.spawn(|| {
+                for _ in 0..100 {
+                    manager.transaction().run_steps(&add).unwrap();
+                }
+            });
+        }
+    });
+    let (number, found) = manager.transaction().run_steps(&[("SELECT N FROM T", Vec::new())]).unwrap();
+    assert_eq!((number, found[0].rows().unwrap()[0].to_vec()), (401, values![400].to_vec()));
 }

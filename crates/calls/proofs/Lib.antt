@@ -1,2 +1,5 @@
 pub mod Telling
 pub mod Naming
+pub mod Stepping
+pub mod Keeping
+pub mod Opening

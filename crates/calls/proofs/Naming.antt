@@ -1,5 +1,5 @@
 -- Reading the names of values one after the other, as a loop does.
-use Rattle.std.proofs.Common.{◌≡◌, ◌+◌, ◌<◌, ℕ, true, false, List, [], ◌∷◌, ◌++◌, drop, length, Option, Some, None, refl, sym, ap, subst, ◌∙◌, append_assoc}
+use Rattle.std.proofs.Common.{◌≡◌, ℕ, true, false, List, [], ◌∷◌, ◌++◌, Option, Some, None, refl, sym, ap, ◌∙◌, append_assoc}
 use Rattle.std.specs.Prelude.{IsSomeAnd}
 use Rattle.value.specs.declared.values.Value.{Value}
 use Rattle.calls.specs.Calls.{IsNameAdded, names_of, value_name, with_first}

@@ -1,5 +1,5 @@
 -- What each call makes of a database, and what it answers.
-use Rattle.std.specs.Prelude.{◌≡◌, ◌⊎◌, ◌++◌, ℕ, Bool, true, false, List, [], ◌∷◌, map, Option, Some, None, Result, Ok, Err, IsSomeAnd}
+use Rattle.std.specs.Prelude.{◌≡◌, ◌⊎◌, ◌++◌, ℕ, Bool, true, false, List, [], ◌∷◌, map, Option, Some, None, Ok, Err, IsSomeAnd}
 use Rattle.std.specs.List.{list_all}
 use Rattle.value.specs.declared.refusals.Refusal.{Refusal}
 use Rattle.value.specs.declared.refusals.Refusal.TheVariants as refusal
@@ -20,7 +20,10 @@ use Rattle.definitions.specs.declared.redeclaration.NewAssertion.{NewAssertion}
 use Rattle.definitions.specs.Redeclaration.{definition_of}
 use Rattle.definitions.specs.Written.{is_assertion}
 use Rattle.commit.specs.Epochs.{IsNextEpoch, is_any_open, next_start_of}
-use Rattle.commit.specs.Events.{EngineState, IsAnswered, after, without_session as engine_without}
+use Rattle.commit.specs.Cores.{newest_tables}
+use Rattle.commit.specs.declared.keepers.Unanswered.{Unanswered}
+use Rattle.commit.specs.declared.keepers.Unanswered.TheVariants as unanswered
+use Rattle.commit.specs.Events.{EngineState, without_session as engine_without}
 use Rattle.commit.specs.Runs.{beginning, seats_with}
 use Rattle.delta.specs.Views.{ViewState}
 use Rattle.replay.specs.Reports.{closing_part_of}
@@ -28,6 +31,7 @@ use Rattle.replay.specs.Takings.{IsAdmitted, IsRefused}
 use Rattle.replay.specs.Texts.{IsRead, IsUnread}
 use Rattle.prepared.specs.declared.faults.FillFault.{FillFault}
 use Rattle.prepared.specs.declared.faults.FillFault.TheVariants as fill
+use Rattle.prepared.specs.Ends.{without_semicolon}
 use Rattle.prepared.specs.Numbers.{parameter_count}
 use Rattle.prepared.specs.declared.prepared.Prepared.{Prepared}
 use Rattle.prepared.specs.Prepared.{IsPrepared, RefusedText, event_with_values, numbers_of}
@@ -44,6 +48,8 @@ use Rattle.messages.specs.declared.responses.Source.TheVariants as source
 use Rattle.messages.specs.Names.{is_name}
 use Rattle.messages.specs.Requests.{RunFields, checkpoint_request, only_number, run_request}
 use Rattle.calls.specs.declared.databases.Database.{Database}
+use Rattle.calls.specs.Images.{image_file}
+use Rattle.calls.specs.Keeping.{IsKeptAnswer, IsNotKept, commit_count, is_journaled, with_engine}
 use Rattle.calls.specs.Sessions.{has_room, is_named, no_sessions, session_name, with_session, without_session}
 use Rattle.calls.specs.Statements.{no_statements, statement_at, with_statement, without_statement}
 
@@ -87,9 +93,9 @@ WithNumber (Some n) Does old new r = Does n old new r
 pub record IsOpenedAs (name : List ℕ) (old new : Database) (number : ℕ) : Type 0 where
   pub number_is : number ≡ old.sessions.next
   pub free : is_named name old.sessions ≡ false
-  pub room : has_room old.engine name old.sessions ≡ true
+  pub room : has_room old.kept.engine name old.sessions ≡ true
   pub leaves : new ≡ record {
-    engine = record old.engine { seats = seats_with old.engine.seats name };
+    kept = with_engine old.kept (record old.kept.engine { seats = seats_with old.kept.engine.seats name });
     sessions = with_session name old.sessions;
     statements = old.statements;
   }
@@ -100,7 +106,7 @@ OpensNamed name old new (response.Session n) = IsOpenedAs name old new n
 OpensNamed name old new (response.Misused m) =
     (m ≡ misuse.NameTaken) × (is_named name old.sessions ≡ true) × (new ≡ old)
 OpensNamed name old new (response.Refused from refusal.TooManySessions) =
-    (from ≡ source.Session) × (has_room old.engine name old.sessions ≡ false) × (new ≡ old)
+    (from ≡ source.Session) × (has_room old.kept.engine name old.sessions ≡ false) × (new ≡ old)
 OpensNamed name old new (response.Refused from r) =
     (from ≡ source.Session) × (r ≡ refusal.NoMemory) × (new ≡ old)
 OpensNamed name old new other = ⊥
@@ -118,7 +124,7 @@ OpensSession bytes old new r = OpensIf (is_name bytes) bytes old new r
 -- on.
 pub record IsClosedAs (number : ℕ) (name : List ℕ) (old new : Database) (r : Response) : Type 0 where
   pub leaves : new ≡ record {
-    engine = engine_without old.engine name;
+    kept = with_engine old.kept (engine_without old.kept.engine name);
     sessions = without_session number old.sessions;
     statements = old.statements;
   }
@@ -135,21 +141,45 @@ ClosesSession number old new r = ClosesNamed (session_name number old.sessions) 
 
 -- ---- events of a session
 
--- the engine answers an event in the seat of the session's name
+-- all but the engine and its journal is as it was
+abbrev pub IsElsewhereSame : Database → Database → Type 0
+IsElsewhereSame old new = new ≡ record old { kept = new.kept }
+
+-- the engine answers an event in the seat of the session's name, and what it commits is kept before it counts
 pub record IsAnsweredIn (name : List ℕ) (Is : Event → Type 0) (old new : Database) (r : Response) : Type 0 where
   pub script_line : ScriptLine
   pub session_is : script_line.session ≡ name
   pub event_is : Is script_line.event
   pub answer : Answer
-  pub answered : IsAnswered old.engine script_line answer
-  pub leaves : new ≡ record old { engine = after old.engine script_line answer }
+  pub answered : IsKeptAnswer old.kept script_line answer new.kept
+  pub same : IsElsewhereSame old new
   pub told : r ≡ response.Answered script_line answer
+
+-- its COMMIT is accepted, and could not be kept: the transactions are as they were
+pub record IsNotKeptIn (name : List ℕ) (Is : Event → Type 0) (old new : Database) (r : Response) : Type 0 where
+  pub event : Event
+  pub event_is : Is event
+  pub not_kept : IsNotKept old.kept new.kept
+  pub same : IsElsewhereSame old new
+  pub told : r ≡ response.NotKept name
+
+-- what is told of an event that was not answered
+abbrev pub unanswered_response : ScriptLine → Unanswered → Response
+unanswered_response script_line unanswered.NotKept = response.NotKept script_line.session
+unanswered_response script_line unanswered.NoMemory = response.Refused source.Statement refusal.NoMemory
+
+-- an event of a session by its name is answered
+abbrev pub AnswersLine : ScriptLine → Database → Database → Response → Type 0
+AnswersLine script_line old new r =
+    IsWithoutMemory source.Statement old new r
+    ⊎ IsAnsweredIn script_line.session (λ e. e ≡ script_line.event) old new r
+    ⊎ IsNotKeptIn script_line.session (λ e. e ≡ script_line.event) old new r
 
 -- an event of the session of this name is answered; without a name no session has the number
 abbrev pub AnswersNamed : Option (List ℕ) → (Event → Type 0) → Database → Database → Response → Type 0
 AnswersNamed None Is old new r = IsTold old new r (response.Misused misuse.NoSession)
 AnswersNamed (Some name) Is old new r =
-    IsWithoutMemory source.Statement old new r ⊎ IsAnsweredIn name Is old new r
+    IsWithoutMemory source.Statement old new r ⊎ IsAnsweredIn name Is old new r ⊎ IsNotKeptIn name Is old new r
 
 -- an event of a session, if it is open
 abbrev pub AnswersEvent : (Event → Type 0) → ℕ → Database → Database → Response → Type 0
@@ -169,7 +199,7 @@ ExecutesText text session old new r =
 -- the same of what was read of the request, if it could be read
 abbrev pub Executes : Option (ℕ × List ℕ) → Database → Database → Response → Type 0
 Executes None old new r = IsTold old new r (response.Misused misuse.BadRequest)
-Executes (Some read) old new r = ExecutesText read.1 read.0 old new r
+Executes (Some read) old new r = ExecutesText (without_semicolon read.1) read.0 old new r
 
 -- ---- prepared statements
 
@@ -232,7 +262,7 @@ Runs request old new r = IsWithoutMemory source.Statement old new r ⊎ RunsRead
 -- what a call for the report is told: the closing part of the commits so far
 abbrev pub Reports : Database → Database → Response → Type 0
 Reports old new r =
-    IsWithoutMemory source.Rules old new r ⊎ IsTold old new r (response.Closing (closing_part_of old.engine.core))
+    IsWithoutMemory source.Rules old new r ⊎ IsTold old new r (response.Closing (closing_part_of old.kept.engine.core))
 
 -- a name of the language, in which case does not count
 abbrev pub named_if : Bool → List ℕ → Option (List ℕ)
@@ -288,18 +318,19 @@ pub record AreUnwritten (text : List ℕ) (old new : Database) (r : Response) : 
 pub record AreUnchanged (dropped : List (List ℕ)) (created : List NewAssertion) (old new : Database) (r : Response) :
     Type 0 where
   pub why : Refusal
-  pub refused : next_start_of dropped created old.engine ≡ Err why
+  pub refused : next_start_of dropped created old.kept.engine ≡ Err why
   pub told : IsTold old new r (response.Refused source.Rules why)
 
 -- rules are dropped and created, and a new epoch begins; the response is the closing part of the one before
 pub record IsChanged (dropped : List (List ℕ)) (created : List NewAssertion) (old new : Database) (r : Response) :
     Type 0 where
-  pub closed : is_any_open old.engine.seats ≡ false
-  pub next : IsNextEpoch dropped created old.engine.core new.engine.core
-  pub seats : new.engine.seats ≡ old.engine.seats
+  pub closed : is_any_open old.kept.engine.seats ≡ false
+  pub next : IsNextEpoch dropped created old.kept.engine.core new.kept.engine.core
+  pub seats : new.kept.engine.seats ≡ old.kept.engine.seats
+  pub writer : new.kept.writer ≡ old.kept.writer
   pub sessions : new.sessions ≡ old.sessions
   pub statements : new.statements ≡ old.statements
-  pub told : r ≡ response.Changed (closing_part_of old.engine.core)
+  pub told : r ≡ response.Changed (closing_part_of old.kept.engine.core)
 
 -- what a checkpoint makes that drops rules of these names and creates these: another epoch, or nothing
 abbrev pub ChangesRules : List (List ℕ) → List NewAssertion → Database → Database → Response → Type 0
@@ -325,11 +356,27 @@ abbrev pub ChangesRead : Option (List ℕ × List Value) → Database → Databa
 ChangesRead None old new r = IsTold old new r (response.Misused misuse.BadRequest)
 ChangesRead (Some fields) old new r = ChangesNamed (names_of fields.1) fields.0 old new r
 
+-- the same of a database, unless its commits are kept in a journal
+abbrev pub ChangesUnless : (journaled : Bool) → List ℕ → Database → Database → Response → Type 0
+ChangesUnless true request old new r = IsTold old new r (response.Misused misuse.Journaled)
+ChangesUnless false request old new r =
+    IsWithoutMemory source.Rules old new r ⊎ ChangesRead (checkpoint_request request) old new r
+
 -- what a request for a checkpoint makes, and is told: the first fault decides, in the order of the request's fields,
 -- its names, its text and the rules; and there may be no memory
 abbrev pub Checkpoints : List ℕ → Database → Database → Response → Type 0
-Checkpoints request old new r =
-    IsWithoutMemory source.Rules old new r ⊎ ChangesRead (checkpoint_request request) old new r
+Checkpoints request old new r = ChangesUnless (is_journaled old.kept) request old new r
+
+-- ---- the image
+
+-- the beginning of a journal of these definitions, of the committed tables
+abbrev pub image_of : (definitions : List ℕ) → Database → List ℕ
+image_of definitions now = image_file definitions (commit_count now.kept) (newest_tables now.kept.engine.core)
+
+-- what a call for it is told
+abbrev pub ShowsImage : (definitions : List ℕ) → Database → Database → Response → Type 0
+ShowsImage definitions old new r =
+    IsWithoutMemory source.Rules old new r ⊎ IsTold old new r (response.Image (image_of definitions old))
 
 -- ---- the columns of a SELECT that lists all
 
@@ -340,7 +387,7 @@ columns_in (Some layout) = layout.columns
 
 -- the columns of the table of a name
 abbrev pub table_columns : List ℕ → Database → List Column
-table_columns table now = columns_in (layout_of table now.engine.core.declared.tables)
+table_columns table now = columns_in (layout_of table now.kept.engine.core.declared.tables)
 
 -- the columns of the table that a SELECT reads; none for any other event
 abbrev pub columns_of : Event → Database → List Column
@@ -366,19 +413,20 @@ IsUnbegun text why = IsUnread IsSchema text why ⊎ IsRefused text why
 
 -- an engine before its first event, with no session and no statement
 pub record IsBegun (text : List ℕ) (limit : ℕ) (now : Database) : Type 0 where
-  pub engine : IsBeginning text limit now.engine
+  pub engine : IsBeginning text limit now.kept.engine
+  pub alone : now.kept.writer ≡ None
   pub sessions : now.sessions ≡ no_sessions
   pub statements : now.statements ≡ no_statements
 
 -- ---- one call
 
--- what an operation on a database makes, and is told
+-- what an operation on a database makes, and is told; those of several events are none that one response answers
 abbrev pub IsOperated : Operation → List ℕ → Database → Database → Response → Type 0
 IsOperated op.Again request old new r = IsTold old new r (response.Misused misuse.BadRequest)
 IsOperated op.Line request old new r = IsTold old new r (response.Misused misuse.BadRequest)
 IsOperated op.OpenSession request old new r = OpensSession request old new r
 IsOperated op.CloseSession request old new r = WithNumber (only_number request) ClosesSession old new r
-IsOperated op.Prepare request old new r = PreparesText request old new r
+IsOperated op.Prepare request old new r = PreparesText (without_semicolon request) old new r
 IsOperated op.Forget request old new r = WithNumber (only_number request) Forgets old new r
 IsOperated op.Run request old new r = Runs request old new r
 IsOperated op.Execute request old new r = Executes (number_at request) old new r
@@ -392,3 +440,6 @@ IsOperated op.Rollback request old new r =
     WithNumber (only_number request) (AnswersEvent (λ e. e ≡ event.Rollback)) old new r
 IsOperated op.Report request old new r = Reports old new r
 IsOperated op.Checkpoint request old new r = Checkpoints request old new r
+IsOperated op.RunAll request old new r = IsTold old new r (response.Misused misuse.BadRequest)
+IsOperated op.Transact request old new r = IsTold old new r (response.Misused misuse.BadRequest)
+IsOperated op.Image request old new r = ShowsImage request old new r

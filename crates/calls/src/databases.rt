@@ -5,17 +5,20 @@ ghost use Rattle.std.specs.Option.{option_map};
 ghost use Rattle.messages.specs.Requests.{only_number};
 ghost use Rattle.replay.specs.Reports.{closing_part_of};
 ghost use Rattle.calls.specs.Calls as spec;
+ghost use Rattle.calls.specs.Keeping.{is_journaled};
+ghost use Rattle.calls.specs.Serving.{IsServed};
 
+use crate::kept::KeptEngine;
 use crate::sessions::Sessions;
 use crate::statements::Statements;
-use commit::{Core, Engine};
+use commit::{Core, Engine, Unanswered};
 use definitions::{NewAssertion, new_assertions};
 use messages::{
-    FieldFault, Misuse, Operation, Response, Source, is_name, read_checkpoint, read_name,
+    FieldFault, Misuse, Operation, Outcome, Response, Source, is_name, read_checkpoint, read_name,
     read_number, read_only_number, read_run,
 };
 use parse::{parse_schema, parse_statement};
-use prepared::{FillFault, prepare};
+use prepared::{FillFault, prepare, without_semicolon};
 use replay::{admit_text, write_closing_part};
 use std::alloc::{AllocError, Global};
 use syntax::{Event, ScriptLine, Statement};
@@ -25,19 +28,19 @@ use value::{Refusal, Text, Value};
 /// The committed transactions, the open sessions, and the prepared statements.
 #[derive(Drop)]
 pub struct Database {
-    pub engine: Engine,
+    pub kept: KeptEngine,
     pub sessions: Sessions,
     pub statements: Statements,
 }
 
-fn refusal_response(source: Source, refusal: Refusal) -> Response
+pub fn refusal_response(source: Source, refusal: Refusal) -> Response
     ensures { result ≡ spec.refusal_response source refusal }
 {
     Response::Refused { source, refusal }
 }
 
 /// What a request is answered whose fields were not read.
-fn field_fault_response(source: Source, fault: FieldFault) -> Response
+pub fn field_fault_response(source: Source, fault: FieldFault) -> Response
     ensures { result ≡ spec.field_fault_response source fault }
 {
     match fault {
@@ -60,6 +63,21 @@ fn fill_fault_response(fault: FillFault) -> Response
             parameter,
         }),
         FillFault::TextNotPlain { parameter } => Response::Misused(Misuse::BadValue { parameter }),
+    }
+}
+
+/// What is told of an event that was not answered.
+fn unanswered_response(script_line: ScriptLine, why: Unanswered) -> Response
+    ensures { result ≡ spec.unanswered_response script_line why }
+{
+    let ScriptLine { session, event } = script_line;
+    drop(event);
+    match why {
+        Unanswered::NotKept => Response::NotKept(session),
+        Unanswered::NoMemory => {
+            drop(session);
+            refusal_response(Source::Statement, Refusal::NoMemory)
+        }
     }
 }
 
@@ -128,14 +146,25 @@ impl Database {
         let view = admit_text(alloc, definitions)?;
         let engine = Engine::new(alloc, limit, view, &[])?;
         Ok(Database {
-            engine,
+            kept: KeptEngine::alone(engine),
             sessions: Sessions::new(alloc),
             statements: Statements::new(alloc),
         })
     }
 
-    /// One call. `Again` and `Line` are none of a database.
-    pub fn operate(&mut self, alloc: Global, operation: Operation, request: &[u8]) -> Response
+    /// One call.
+    pub fn serve(&mut self, alloc: Global, operation: Operation, request: &[u8]) -> Outcome
+        ensures { IsServed operation request.now self.old self.new result }
+    {
+        match operation {
+            Operation::RunAll => self.run_all(alloc, request),
+            Operation::Transact => self.transact(alloc, request),
+            _ => Outcome::One(self.operate(alloc, operation, request)),
+        }
+    }
+
+    /// One call that is answered by one response. `Again` and `Line` are none of a database.
+    fn operate(&mut self, alloc: Global, operation: Operation, request: &[u8]) -> Response
         ensures { spec.IsOperated operation request.now self.old self.new result }
     {
         match operation {
@@ -146,7 +175,7 @@ impl Database {
                 None => Response::Misused(Misuse::BadRequest),
                 Some(session) => self.close_session(session),
             },
-            Operation::Prepare => self.prepare_text(alloc, request),
+            Operation::Prepare => self.prepare_text(alloc, without_semicolon(request)),
             Operation::Forget => match read_only_number(request) {
                 None => Response::Misused(Misuse::BadRequest),
                 Some(statement) => self.forget(statement),
@@ -154,7 +183,7 @@ impl Database {
             Operation::Run => self.run(alloc, request),
             Operation::Execute => match read_number(request) {
                 None => Response::Misused(Misuse::BadRequest),
-                Some((session, text)) => self.execute(alloc, session, text),
+                Some((session, text)) => self.execute(alloc, session, without_semicolon(text)),
             },
             Operation::Begin => self.answer_alone(request, Event::Begin),
             Operation::BeginReadOnly => self.answer_alone(request, Event::BeginReadOnly),
@@ -162,6 +191,9 @@ impl Database {
             Operation::Rollback => self.answer_alone(request, Event::Rollback),
             Operation::Report => self.report(alloc),
             Operation::Checkpoint => self.checkpoint(alloc, request),
+            Operation::RunAll => Response::Misused(Misuse::BadRequest),
+            Operation::Transact => Response::Misused(Misuse::BadRequest),
+            Operation::Image => self.image(alloc, request),
         }
     }
 
@@ -185,10 +217,10 @@ impl Database {
         if self.sessions.is_named(&name) {
             return Response::Misused(Misuse::NameTaken);
         }
-        if !self.sessions.has_room(&self.engine, &name) {
+        if !self.sessions.has_room(self.kept.engine(), &name) {
             return refusal_response(Source::Session, Refusal::TooManySessions);
         }
-        match self.sessions.add(&mut self.engine, name) {
+        match self.sessions.add(&mut self.kept, name) {
             Ok(number) => Response::Session(number),
             Err(_) => refusal_response(Source::Session, Refusal::NoMemory),
         }
@@ -202,7 +234,7 @@ impl Database {
         let Some(session) = self.sessions.close(number) else {
             return Response::Misused(Misuse::NoSession);
         };
-        self.engine.unseat(&session.name);
+        self.kept.unseat(&session.name);
         Response::SessionClosed
     }
 
@@ -249,7 +281,8 @@ impl Database {
         }
     }
 
-    fn run_statement(
+    /// Runs a statement with these values, in a session.
+    pub fn run_statement(
         &mut self,
         alloc: Global,
         session: u64,
@@ -293,7 +326,7 @@ impl Database {
     }
 
     /// Answers an event of a session.
-    fn answer(&mut self, session: u64, event: Event) -> Response
+    pub fn answer(&mut self, session: u64, event: Event) -> Response
         ensures { spec.AnswersEvent (λ e. e ≡ event) session self.old self.new result }
     {
         let Some(name) = self.sessions.name(session) else {
@@ -301,14 +334,7 @@ impl Database {
             return Response::Misused(Misuse::NoSession);
         };
         match name.copy() {
-            Ok(session) => {
-                let script_line = ScriptLine { session, event };
-                let answer = self.engine.answer(&script_line);
-                Response::Answered {
-                    script_line,
-                    answer,
-                }
-            }
+            Ok(session) => self.answer_line(ScriptLine { session, event }),
             Err(_) => {
                 drop(event);
                 refusal_response(Source::Statement, Refusal::NoMemory)
@@ -316,20 +342,36 @@ impl Database {
         }
     }
 
+    /// Answers an event of a session by its name.
+    fn answer_line(&mut self, script_line: ScriptLine) -> Response
+        ensures { spec.AnswersLine script_line self.old self.new result }
+    {
+        match self.kept.answer(&script_line) {
+            Ok(answer) => Response::Answered {
+                script_line,
+                answer,
+            },
+            Err(why) => unanswered_response(script_line, why),
+        }
+    }
+
     /// The closing part of a report.
     fn report(&self, alloc: Global) -> Response
         ensures { spec.Reports self.now self.now result }
     {
-        match closing_part(alloc, self.engine.core()) {
+        match closing_part(alloc, self.kept.engine().core()) {
             Ok(text) => Response::Closing(text),
             Err(_) => refusal_response(Source::Rules, Refusal::NoMemory),
         }
     }
 
-    /// Changes the rules as a request asks, with a new epoch.
+    /// Changes the rules as a request asks, with a new epoch, where no journal has the commits.
     fn checkpoint(&mut self, alloc: Global, request: &[u8]) -> Response
         ensures { spec.Checkpoints request.now self.old self.new result }
     {
+        if self.kept.is_journaled() {
+            return Response::Misused(Misuse::Journaled);
+        }
         match read_checkpoint(alloc, request) {
             Ok((text, values)) => self.drop_and_create(alloc, &values, text),
             Err(fault) => field_fault_response(Source::Rules, fault),
@@ -338,6 +380,7 @@ impl Database {
 
     /// Drops the rules whose names these values are, and creates those of a text.
     fn drop_and_create(&mut self, alloc: Global, values: &[Value], text: &[u8]) -> Response
+        requires alone { is_journaled self.old.kept ≡ false }
         ensures { spec.ChangesNamed (spec.names_of values.now) text.now self.old self.new result }
     {
         let dropped = match read_names(alloc, values) {
@@ -359,12 +402,13 @@ impl Database {
         dropped: &[Text],
         created: &[NewAssertion],
     ) -> Response
+        requires alone { is_journaled self.old.kept ≡ false }
         ensures { spec.ChangesRules dropped.now created.now self.old self.new result }
     {
-        let Ok(text) = closing_part(alloc, self.engine.core()) else {
+        let Ok(text) = closing_part(alloc, self.kept.engine().core()) else {
             return refusal_response(Source::Rules, Refusal::NoMemory);
         };
-        match self.engine.checkpoint(dropped, created) {
+        match self.kept.checkpoint(dropped, created) {
             Ok(before) => {
                 drop(before);
                 Response::Changed(text)
@@ -398,7 +442,7 @@ impl Database {
     fn table_columns(&self, table: &Text) -> &[Column]
         ensures { result.now ≡ spec.table_columns table.now self.now }
     {
-        match self.engine.core().newest().catalog().get(table) {
+        match self.kept.engine().core().newest().catalog().get(table) {
             None => &[],
             Some(schema) => schema.columns(),
         }

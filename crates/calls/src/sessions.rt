@@ -1,9 +1,10 @@
 //! The sessions that are open.
 
 ghost use Rattle.std.specs.Prelude.{◌≡◌, ◌<◌, length, IfOk, IfSome, OnErr, OnOk, option_copied};
-ghost use Rattle.commit.specs.Runs.{seats_with};
+ghost use Rattle.calls.specs.Keeping.{IsSeated};
 ghost use Rattle.calls.specs.Sessions as spec;
 
+use crate::kept::KeptEngine;
 use commit::{Engine, Seat};
 use replay::MOST_SESSIONS;
 use std::alloc::{AllocError, Global};
@@ -80,16 +81,16 @@ impl Sessions {
     }
 
     /// Opens a session, and gives its number. Its name then has a seat. Where memory runs out, nothing has changed.
-    pub fn add(&mut self, engine: &mut Engine, name: Text) -> Result<u64, AllocError>
+    pub fn add(&mut self, kept: &mut KeptEngine, name: Text) -> Result<u64, AllocError>
         requires room { self.old.next < 18446744073709551615 }
         ensures number { IfOk result (λ number. number ≡ self.old.next) }
         ensures added { OnOk result (self.new ≡ spec.with_session name self.old) }
-        ensures seated { OnOk result (engine.new ≡ record engine.old { seats = seats_with engine.old.seats name }) }
-        ensures same { OnErr result ((self.new ≡ self.old) × (engine.new ≡ engine.old)) }
+        ensures seated { IsSeated name result kept.old kept.new }
+        ensures same { OnErr result (self.new ≡ self.old) }
     {
         let number = self.next;
         self.entries.reserve(1)?;
-        engine.seat(&name)?;
+        kept.seat(&name)?;
         self.entries.push_reserved(Session { number, name });
         self.next = number + 1;
         Ok(number)

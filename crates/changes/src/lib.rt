@@ -77,7 +77,7 @@ pub use checks::{checks_read, push_check, tables_read};
 pub use deletions::removals;
 pub use filters::TableFilter;
 pub use insertions::insertion;
-pub use real::real_changes;
+pub use real::{is_same_there, real_changes};
 pub use selections::selected_rows;
 pub use touched::{RowsThere, TouchedRows};
 pub use updates::renewals;

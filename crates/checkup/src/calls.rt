@@ -1,10 +1,10 @@
 //! The calls.
 
-use crate::examinations::examine;
-use crate::objects::object;
-use crate::texts::{NamedText, show};
-use diagnosis::diagnose_definitions;
-use faults::{Colour, Which, diagnose_grammar, picture};
+use crate::examinations::{Examination, Texts, examine, examine_definitions};
+use crate::objects::push_object;
+use crate::texts::show;
+use diagnosis::{DefinitionsText, diagnose_definitions};
+use faults::{Colour, Diagnosis, NamedText, Which, diagnose_grammar, draw};
 use parse::parse_schema;
 use std::alloc::{AllocError, Global};
 use std::io::Write;
@@ -55,12 +55,35 @@ pub fn check_into<W: Write>(
     style: Style,
     out: &mut W,
 ) -> Result<Health, CheckFault> {
-    let found = examine(alloc, defs.bytes, script.map(|script| script.bytes))?;
-    let shown = match style {
-        Style::Text(colour) => show(alloc, defs, script, &found, colour)?,
-        Style::Json => object(alloc, defs, script, &found)?,
-    };
+    let mut shown = String::new(alloc);
+    let health = check(alloc, Texts { defs, script }, style, &mut shown)?;
     write_all(shown.as_str(), out)?;
+    Ok(health)
+}
+
+/// Puts what is found in two texts behind a text.
+fn check(
+    alloc: Global,
+    texts: Texts,
+    style: Style,
+    shown: &mut String,
+) -> Result<Health, AllocError> {
+    let mut found = Examination::new(alloc);
+    examine_and_show(alloc, texts, style, &mut found, shown)
+}
+
+fn examine_and_show(
+    alloc: Global,
+    texts: Texts,
+    style: Style,
+    found: &mut Examination,
+    shown: &mut String,
+) -> Result<Health, AllocError> {
+    examine(alloc, texts, found)?;
+    match style {
+        Style::Text(colour) => show(alloc, texts, found, colour, shown)?,
+        Style::Json => push_object(alloc, texts, found, shown)?,
+    }
     if found.faults.is_empty() {
         Ok(Health::Well)
     } else {
@@ -76,48 +99,97 @@ fn write_all<W: Write>(text: &str, out: &mut W) -> Result<(), CheckFault> {
     Ok(())
 }
 
-/// The picture of the fault for which a text was refused by a run of both, for a terminal. Empty where the refusal says
+/// Draws the fault for which a text was refused by a run of both, for a terminal; nothing where the refusal says
 /// nothing of the text.
-pub fn picture_of_refusal(
+///
+/// # Errors
+///
+/// Where there is no memory for it. A part may be drawn.
+pub fn draw_refused(
     alloc: Global,
     which: Which,
     text: NamedText,
     refusal: &Refusal,
     colour: Colour,
-) -> Result<String, AllocError> {
-    let found = match (which, refusal) {
-        (_, Refusal::NoMemory) => None,
-        (_, Refusal::Syntax { .. } | Refusal::TooDeep { .. }) => {
-            diagnose_grammar(alloc, which, text.bytes, refusal)?
-        }
-        (Which::Script, _) => None,
-        (Which::Defs, _) => return picture_of_definitions(alloc, text, refusal, colour),
-    };
-    match found {
-        Some(diagnosis) => picture(alloc, text.name, text.bytes, &diagnosis, colour),
-        None => Ok(String::new(alloc)),
+    drawn: &mut String,
+) -> Result<(), AllocError> {
+    match (which, refusal) {
+        (Which::Defs, Refusal::FalseAtCreation { .. }) => draw_false(alloc, text, colour, drawn),
+        _ => draw_refusal(alloc, which, text, refusal, colour, drawn),
     }
 }
 
-/// The picture of definitions that are of the language and were refused.
-fn picture_of_definitions(
+/// Draws the first fault of definitions that are refused once their rows are put in.
+fn draw_false(
     alloc: Global,
+    text: NamedText,
+    colour: Colour,
+    drawn: &mut String,
+) -> Result<(), AllocError> {
+    let mut found = Examination::new(alloc);
+    draw_first(alloc, text, colour, &mut found, drawn)
+}
+
+fn draw_first(
+    alloc: Global,
+    text: NamedText,
+    colour: Colour,
+    found: &mut Examination,
+    drawn: &mut String,
+) -> Result<(), AllocError> {
+    examine_definitions(alloc, text.bytes, found)?;
+    match found.faults.first() {
+        Some(fault) => draw(text, fault, colour, drawn),
+        None => Ok(()),
+    }
+}
+
+fn draw_refusal(
+    alloc: Global,
+    which: Which,
     text: NamedText,
     refusal: &Refusal,
     colour: Colour,
-) -> Result<String, AllocError> {
-    if matches!(refusal, Refusal::FalseAtCreation { .. }) {
-        let found = examine(alloc, text.bytes, None)?;
-        return match found.faults.first() {
-            Some(fault) => picture(alloc, text.name, text.bytes, fault, colour),
-            None => Ok(String::new(alloc)),
-        };
+    drawn: &mut String,
+) -> Result<(), AllocError> {
+    let mut fault = Diagnosis::new(alloc, which);
+    if diagnose_refusal(alloc, text.bytes, refusal, &mut fault)? {
+        draw(text, &fault, colour, drawn)?;
     }
-    match parse_schema(alloc, text.bytes) {
-        Ok(definitions) => {
-            let fault = diagnose_definitions(alloc, text.bytes, definitions.as_slice(), refusal)?;
-            picture(alloc, text.name, text.bytes, &fault, colour)
+    Ok(())
+}
+
+/// Says why a text was refused, if the refusal says something of it.
+fn diagnose_refusal(
+    alloc: Global,
+    bytes: &[u8],
+    refusal: &Refusal,
+    fault: &mut Diagnosis,
+) -> Result<bool, AllocError> {
+    match (fault.which, refusal) {
+        (_, Refusal::NoMemory) => Ok(false),
+        (_, Refusal::Syntax { .. } | Refusal::TooDeep { .. }) => {
+            diagnose_grammar(alloc, bytes, refusal, fault)
         }
-        Err(_) => Ok(String::new(alloc)),
+        (Which::Script, _) => Ok(false),
+        (Which::Defs, _) => diagnose_schema(alloc, bytes, refusal, fault),
+    }
+}
+
+/// Says why definitions that are of the language were refused.
+fn diagnose_schema(
+    alloc: Global,
+    bytes: &[u8],
+    refusal: &Refusal,
+    fault: &mut Diagnosis,
+) -> Result<bool, AllocError> {
+    match parse_schema(alloc, bytes) {
+        Ok(definitions) => {
+            let definitions = definitions.as_slice();
+            let text = DefinitionsText { bytes, definitions };
+            diagnose_definitions(alloc, text, refusal, fault)?;
+            Ok(true)
+        }
+        Err(_) => Ok(false),
     }
 }

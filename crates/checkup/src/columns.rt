@@ -28,6 +28,14 @@ pub fn add_column(columns: &mut Vec<usize>, column: usize) -> Result<(), AllocEr
     Ok(())
 }
 
+/// Puts columns among others.
+pub fn add_columns(columns: &mut Vec<usize>, more: &[usize]) -> Result<(), AllocError> {
+    for column in more {
+        add_column(columns, *column)?;
+    }
+    Ok(())
+}
+
 /// Puts the columns of a condition among others.
 pub fn add_condition(
     columns: &mut Vec<usize>,

@@ -1,20 +1,34 @@
 //! Two texts are looked at: their faults, and what they define.
 
-use assertion::Form;
+use assertion::{Assertion, Form};
 use definitions::Definitions;
 use delta::View;
-use diagnosis::{diagnose_definitions, diagnose_false, diagnose_statement, row_text};
-use faults::{At, Diagnosis, Which, diagnose_grammar};
+use diagnosis::{
+    BadRow, DefinitionsText, diagnose_definitions, diagnose_false, diagnose_statement,
+};
+use faults::{At, Diagnosis, NamedText, Which, diagnose_grammar};
 use parse::{parse_schema, parse_script};
 use replay::MOST_SESSIONS;
-use sqlite_items::Items;
 use std::alloc::{AllocError, Global};
-use syntax::{Definition, Event, ScriptLine};
+use syntax::{Event, ScriptLine, Statement};
 use value::{Refusal, Root, Text};
 
-/// What is said of too many sessions.
-const FEWER_SESSIONS: &str =
-    "A session can run many transactions, one after the other: let some share one.";
+/// Two texts that are looked at together: definitions, and a script if there is one.
+#[derive(Clone, Copy)]
+pub struct Texts<'a> {
+    pub defs: NamedText<'a>,
+    pub script: Option<NamedText<'a>>,
+}
+
+impl<'a> Texts<'a> {
+    /// The text that a fault is of.
+    pub fn of(&self, which: Which) -> NamedText<'a> {
+        match (which, self.script) {
+            (Which::Script, Some(script)) => script,
+            _ => self.defs,
+        }
+    }
+}
 
 /// At most so many statements that are always refused are told.
 pub const MOST_NOTES: usize = 5;
@@ -33,30 +47,53 @@ pub struct Examination {
     pub notes: Vec<Diagnosis>,
 }
 
-/// Looks at definitions, and at a script if there is one. Want of memory is the only error.
-pub fn examine(
-    alloc: Global,
-    defs: &[u8],
-    script: Option<&[u8]>,
-) -> Result<Examination, AllocError> {
-    let mut found = Examination {
-        view: None,
-        events: 0,
-        sessions: 0,
-        faults: Vec::new(alloc),
-        notes: Vec::new(alloc),
-    };
-    match parse_schema(alloc, defs) {
-        Ok(definitions) => take(alloc, defs, &definitions, &mut found)?,
-        Err(refusal) => push_grammar(alloc, Which::Defs, defs, &refusal, &mut found)?,
-    }
-    if let Some(script) = script {
-        match parse_script(alloc, script) {
-            Ok(lines) => look_at_lines(alloc, script, lines.as_slice(), &mut found)?,
-            Err(refusal) => push_grammar(alloc, Which::Script, script, &refusal, &mut found)?,
+impl Examination {
+    /// Nothing was found yet.
+    pub fn new(alloc: Global) -> Examination {
+        Examination {
+            view: None,
+            events: 0,
+            sessions: 0,
+            faults: Vec::new(alloc),
+            notes: Vec::new(alloc),
         }
     }
-    Ok(found)
+}
+
+/// Looks at definitions, and at a script if there is one. Want of memory is the only error.
+pub fn examine(alloc: Global, texts: Texts, found: &mut Examination) -> Result<(), AllocError> {
+    examine_definitions(alloc, texts.defs.bytes, found)?;
+    match texts.script {
+        Some(script) => examine_script(alloc, script.bytes, found),
+        None => Ok(()),
+    }
+}
+
+/// Looks at definitions.
+pub fn examine_definitions(
+    alloc: Global,
+    bytes: &[u8],
+    found: &mut Examination,
+) -> Result<(), AllocError> {
+    match parse_schema(alloc, bytes) {
+        Ok(definitions) => {
+            let definitions = definitions.as_slice();
+            take(alloc, DefinitionsText { bytes, definitions }, found)
+        }
+        Err(refusal) => push_grammar(alloc, Which::Defs, bytes, &refusal, &mut found.faults),
+    }
+}
+
+/// Looks at a script that is run over what the definitions define.
+pub fn examine_script(
+    alloc: Global,
+    bytes: &[u8],
+    found: &mut Examination,
+) -> Result<(), AllocError> {
+    match parse_script(alloc, bytes) {
+        Ok(lines) => look_at_lines(alloc, bytes, lines.as_slice(), found),
+        Err(refusal) => push_grammar(alloc, Which::Script, bytes, &refusal, &mut found.faults),
+    }
 }
 
 /// Puts the fault of a text that is none of the language behind the others.
@@ -65,77 +102,94 @@ fn push_grammar(
     which: Which,
     bytes: &[u8],
     refusal: &Refusal,
-    found: &mut Examination,
+    faults: &mut Vec<Diagnosis>,
 ) -> Result<(), AllocError> {
-    match diagnose_grammar(alloc, which, bytes, refusal)? {
-        Some(diagnosis) => {
-            found.faults.push(diagnosis)?;
-            Ok(())
-        }
-        None => Err(AllocError),
+    let mut fault = Diagnosis::new(alloc, which);
+    if !diagnose_grammar(alloc, bytes, refusal, &mut fault)? {
+        return Err(AllocError);
     }
-}
-
-/// Takes definitions in, and sees whether each assertion holds on their rows.
-fn take(
-    alloc: Global,
-    bytes: &[u8],
-    definitions: &Items<Definition>,
-    found: &mut Examination,
-) -> Result<(), AllocError> {
-    let taken = match Definitions::take(alloc, definitions.as_slice()) {
-        Ok(taken) => taken,
-        Err(Refusal::NoMemory) => return Err(AllocError),
-        Err(refusal) => {
-            let fault = diagnose_definitions(alloc, bytes, definitions.as_slice(), &refusal)?;
-            found.faults.push(fault)?;
-            return Ok(());
-        }
-    };
-    let view = taken.load(alloc)?;
-    if let Some(fault) = find_first_false(alloc, bytes, definitions.as_slice(), &view)? {
-        found.faults.push(fault)?;
-    }
-    found.view = Some(view);
+    faults.push(fault)?;
     Ok(())
 }
 
-/// What is wrong with the first assertion that is false: its least bad root, and by rows the row that is bad.
-fn find_first_false(
+/// Takes definitions in, and sees whether each assertion holds on their rows.
+fn take(alloc: Global, text: DefinitionsText, found: &mut Examination) -> Result<(), AllocError> {
+    match Definitions::take(alloc, text.definitions) {
+        Ok(taken) => load(alloc, text, taken, found),
+        Err(refusal) => push_refused(alloc, text, &refusal, &mut found.faults),
+    }
+}
+
+/// Puts the fault of definitions that were refused behind the others.
+fn push_refused(
     alloc: Global,
-    bytes: &[u8],
-    definitions: &[Definition],
+    text: DefinitionsText,
+    refusal: &Refusal,
+    faults: &mut Vec<Diagnosis>,
+) -> Result<(), AllocError> {
+    if matches!(refusal, Refusal::NoMemory) {
+        return Err(AllocError);
+    }
+    let mut fault = Diagnosis::new(alloc, Which::Defs);
+    diagnose_definitions(alloc, text, refusal, &mut fault)?;
+    faults.push(fault)?;
+    Ok(())
+}
+
+/// Keeps the tables with the rows that definitions put in, and the fault of the first assertion that is false on them.
+fn load(
+    alloc: Global,
+    text: DefinitionsText,
+    taken: Definitions,
+    found: &mut Examination,
+) -> Result<(), AllocError> {
+    found.view = Some(taken.load(alloc)?);
+    match &found.view {
+        Some(view) => push_first_false(alloc, text, view, &mut found.faults),
+        None => Ok(()),
+    }
+}
+
+/// Puts the fault of the first assertion that is false behind the others.
+fn push_first_false(
+    alloc: Global,
+    text: DefinitionsText,
     view: &View,
-) -> Result<Option<Diagnosis>, AllocError> {
+    faults: &mut Vec<Diagnosis>,
+) -> Result<(), AllocError> {
     for place in 0..view.assertions().len() {
         if let Some(root) = view.least_bad(place) {
-            let assertion = &view.assertions()[place];
-            let row = bad_row(alloc, view, &assertion.form, root)?;
-            let name = &assertion.name;
-            let fault = diagnose_false(alloc, bytes, definitions, name, root, row)?;
-            return Ok(Some(fault));
+            return push_false(alloc, text, view, &view.assertions()[place], root, faults);
         }
     }
-    Ok(None)
+    Ok(())
+}
+
+/// Puts the fault of an assertion that is false at this root, its least bad one, behind the others.
+fn push_false(
+    alloc: Global,
+    text: DefinitionsText,
+    view: &View,
+    assertion: &Assertion,
+    root: &Root,
+    faults: &mut Vec<Diagnosis>,
+) -> Result<(), AllocError> {
+    let row = bad_row(view, &assertion.form, root);
+    let mut fault = Diagnosis::new(alloc, Which::Defs);
+    diagnose_false(alloc, text, &assertion.name, root, row, &mut fault)?;
+    faults.push(fault)?;
+    Ok(())
 }
 
 /// The row at which an assertion by rows is false.
-fn bad_row(
-    alloc: Global,
-    view: &View,
-    form: &Form,
-    root: &Root,
-) -> Result<Option<String>, AllocError> {
+fn bad_row<'a>(view: &'a View, form: &Form, root: &Root) -> Option<BadRow<'a>> {
     let (Form::ByRow { table, .. }, Root::Of(key)) = (form, root) else {
-        return Ok(None);
+        return None;
     };
-    let Some(name) = view.catalog().name(*table) else {
-        return Ok(None);
-    };
-    match view.row(*table, key) {
-        Some(row) => Ok(Some(row_text(alloc, name, row)?)),
-        None => Ok(None),
-    }
+    Some(BadRow {
+        table: view.catalog().name(*table)?,
+        row: view.row(*table, key)?,
+    })
 }
 
 /// Counts the sessions of a script, and looks for statements that are always refused.
@@ -148,20 +202,28 @@ fn look_at_lines(
     found.events = lines.len();
     found.sessions = session_count(alloc, lines)?;
     if found.sessions > MOST_SESSIONS {
-        let sessions = found.sessions;
-        let what = format!(in alloc;
-            "the script has {sessions} sessions, and at most {MOST_SESSIONS} are run"
-        )?;
-        let fault = Diagnosis::new(alloc, Which::Script, 24, what, At::Nowhere).with(
-            String::from_str(alloc, FEWER_SESSIONS)?,
-        )?;
-        found.faults.push(fault)?;
+        push_too_many(alloc, found.sessions, &mut found.faults)?;
     }
-    let mut notes = Vec::new(alloc);
-    if let Some(view) = &found.view {
-        push_notes(alloc, bytes, lines, view, &mut notes)?;
+    match &found.view {
+        Some(view) => push_notes(alloc, bytes, lines, view, &mut found.notes),
+        None => Ok(()),
     }
-    found.notes = notes;
+}
+
+/// Puts the fault of a script of so many sessions behind the others.
+fn push_too_many(
+    alloc: Global,
+    sessions: usize,
+    faults: &mut Vec<Diagnosis>,
+) -> Result<(), AllocError> {
+    let mut fault = Diagnosis::new(alloc, Which::Script);
+    fault.place(24, At::Nowhere);
+    write!(
+        fault.what,
+        "the script has {sessions} sessions, and at most {MOST_SESSIONS} are run"
+    )?;
+    fault.advise("A session can run many transactions, one after the other: let some share one.")?;
+    faults.push(fault)?;
     Ok(())
 }
 
@@ -174,14 +236,28 @@ fn push_notes(
     notes: &mut Vec<Diagnosis>,
 ) -> Result<(), AllocError> {
     for (place, line) in lines.iter().enumerate() {
-        if let Event::Run(statement) = &line.event {
-            if let Some(note) = diagnose_statement(alloc, bytes, place, statement, view)? {
-                notes.push(note)?;
-                if notes.len() >= MOST_NOTES {
-                    return Ok(());
-                }
-            }
+        if notes.len() >= MOST_NOTES {
+            return Ok(());
         }
+        if let Event::Run(statement) = &line.event {
+            push_note(alloc, bytes, place, statement, view, notes)?;
+        }
+    }
+    Ok(())
+}
+
+/// Puts a statement behind the others, if it is always refused.
+fn push_note(
+    alloc: Global,
+    bytes: &[u8],
+    place: usize,
+    statement: &Statement,
+    view: &View,
+    notes: &mut Vec<Diagnosis>,
+) -> Result<(), AllocError> {
+    let mut note = Diagnosis::new(alloc, Which::Script);
+    if diagnose_statement(alloc, bytes, place, statement, view, &mut note)? {
+        notes.push(note)?;
     }
     Ok(())
 }

@@ -5,7 +5,7 @@
 //! each query or set function in its condition (`roots`), and one of COUNT(*) where a HAVING has none. A query whose
 //! WHERE looks at the row around it has one for each such row, or none where it is linked by its own key.
 
-use crate::columns::{WhichRow, add_column, add_condition};
+use crate::columns::{WhichRow, add_column, add_columns, add_condition};
 use crate::pairs::count_pairs;
 use assertion::{Form, Link, Query, Whole};
 use changes::{TableFilter, selected_rows};
@@ -77,6 +77,21 @@ pub struct MaintainedFunction {
     pub counts: Counts,
 }
 
+impl MaintainedFunction {
+    /// Of rows of which nothing is maintained.
+    fn new(alloc: Global, rows: Selection, function: Aggregate) -> MaintainedFunction {
+        MaintainedFunction {
+            function,
+            table: rows.table,
+            grouping: rows.grouping,
+            upkeep: Upkeep::Nothing,
+            filter: Vec::new(alloc),
+            beside: Vec::new(alloc),
+            counts: Counts { rows: 0, groups: 0 },
+        }
+    }
+}
+
 /// What a check of one root reads: of a table all rows, those with one value in a column, or the row under a key.
 #[derive(Drop)]
 pub struct Reading {
@@ -96,14 +111,30 @@ pub struct Figures {
     pub readings: Vec<Reading>,
 }
 
-/// The figures of an assertion of this form on the rows of a view.
-pub fn figures_of(alloc: Global, view: &View, form: &Form) -> Result<Figures, AllocError> {
+impl Figures {
+    /// Of no assertion yet.
+    pub fn new(alloc: Global) -> Figures {
+        Figures {
+            counts: Counts { rows: 0, groups: 0 },
+            kept: Vec::new(alloc),
+            readings: Vec::new(alloc),
+        }
+    }
+}
+
+/// Puts in the figures of an assertion of this form on the rows of a view.
+pub fn put_figures(
+    alloc: Global,
+    view: &View,
+    form: &Form,
+    figures: &mut Figures,
+) -> Result<(), AllocError> {
     match form {
         Form::ByRow {
             table,
             condition,
             queries,
-        } => by_row(alloc, view, *table, condition, queries.as_slice()),
+        } => by_row(alloc, view, *table, condition, queries.as_slice(), figures),
         Form::ByGroup {
             table,
             filter,
@@ -116,9 +147,9 @@ pub fn figures_of(alloc: Global, view: &View, form: &Form) -> Result<Figures, Al
                 filter,
                 grouping: Grouping::By(*group),
             };
-            by_group(alloc, view, groups, aggregates.as_slice())
+            by_group(alloc, view, groups, aggregates.as_slice(), figures)
         }
-        Form::Single { queries, .. } => single(alloc, view, queries.as_slice()),
+        Form::Single { queries, .. } => single(alloc, view, queries.as_slice(), figures),
     }
 }
 
@@ -128,48 +159,72 @@ fn by_row(
     table: usize,
     condition: &Cond,
     queries: &[Query<Link>],
-) -> Result<Figures, AllocError> {
-    let mut figures = no_figures(alloc);
+    figures: &mut Figures,
+) -> Result<(), AllocError> {
     let rows = row_count(view, table);
     figures.counts = Counts { rows, groups: rows };
     let key = view.key_column(table);
     let mut columns = Vec::new(alloc);
-    add_column(&mut columns, key)?;
-    add_condition(&mut columns, condition, WhichRow::Own)?;
-    for query in queries {
-        add_column(&mut columns, query.grouping.outer)?;
-        add_condition(&mut columns, &query.filter, WhichRow::Around)?;
-    }
-    put_reading(&mut figures.readings, table, Some(key), columns)?;
-    for query in queries {
-        let kept = linked_of(alloc, view, table, query)?;
-        put_kept(alloc, &mut figures, kept)?;
-    }
-    Ok(figures)
+    add_row_columns(key, condition, queries, &mut columns)?;
+    put_reading(alloc, table, Some(key), &columns, &mut figures.readings)?;
+    put_linked(alloc, view, table, queries, figures)
 }
 
-/// What is maintained of a linked query.
-fn linked_of(
+/// Puts the columns of a row that are looked at where a rule by rows is checked among others.
+fn add_row_columns(
+    key: usize,
+    condition: &Cond,
+    queries: &[Query<Link>],
+    columns: &mut Vec<usize>,
+) -> Result<(), AllocError> {
+    add_column(columns, key)?;
+    add_condition(columns, condition, WhichRow::Own)?;
+    for query in queries {
+        add_column(columns, query.grouping.outer)?;
+        add_condition(columns, &query.filter, WhichRow::Around)?;
+    }
+    Ok(())
+}
+
+/// Puts what is maintained of the linked queries of a row of this table behind the others.
+fn put_linked(
+    alloc: Global,
+    view: &View,
+    around: usize,
+    queries: &[Query<Link>],
+    figures: &mut Figures,
+) -> Result<(), AllocError> {
+    for query in queries {
+        let rows = Selection {
+            table: query.table,
+            filter: &query.filter,
+            grouping: Grouping::Linked(query.grouping),
+        };
+        if query.filter.has_slots() {
+            put_beside(alloc, view, around, query, rows, figures)?;
+        } else {
+            put_total(alloc, view, rows, query.aggregate, figures)?;
+        }
+    }
+    Ok(())
+}
+
+/// Puts what is maintained of a query that looks at the row around it behind the others.
+fn put_beside(
     alloc: Global,
     view: &View,
     around: usize,
     query: &Query<Link>,
-) -> Result<MaintainedFunction, AllocError> {
-    let rows = Selection {
-        table: query.table,
-        filter: &query.filter,
-        grouping: Grouping::Linked(query.grouping),
-    };
-    if !query.filter.has_slots() {
-        return kept_of(alloc, view, rows, query.aggregate);
-    }
-    let mut kept = no_total(alloc, rows, query.aggregate)?;
-    add_condition(&mut kept.beside, &query.filter, WhichRow::Around)?;
+    rows: Selection,
+    figures: &mut Figures,
+) -> Result<(), AllocError> {
+    let mut kept = MaintainedFunction::new(alloc, rows, query.aggregate);
+    kept.counts = count_pairs(alloc, view, around, query)?;
     if query.grouping.inner != view.key_column(query.table) {
         kept.upkeep = Upkeep::RowsAround;
     }
-    kept.counts = count_pairs(alloc, view, around, query)?;
-    Ok(kept)
+    add_condition(&mut kept.beside, &query.filter, WhichRow::Around)?;
+    put_kept(alloc, rows.filter, kept, figures)
 }
 
 fn by_group(
@@ -177,86 +232,107 @@ fn by_group(
     view: &View,
     groups: Selection,
     aggregates: &[Aggregate],
-) -> Result<Figures, AllocError> {
-    let mut figures = no_figures(alloc);
+    figures: &mut Figures,
+) -> Result<(), AllocError> {
     figures.counts = count(alloc, view, groups)?;
     if aggregates.is_empty() {
-        let kept = kept_of(alloc, view, groups, Aggregate::CountRows)?;
-        put_kept(alloc, &mut figures, kept)?;
+        return put_total(alloc, view, groups, Aggregate::CountRows, figures);
     }
     for aggregate in aggregates {
-        let kept = kept_of(alloc, view, groups, *aggregate)?;
-        put_kept(alloc, &mut figures, kept)?;
+        put_total(alloc, view, groups, *aggregate, figures)?;
     }
-    Ok(figures)
+    Ok(())
 }
 
-fn single(alloc: Global, view: &View, queries: &[Query<Whole>]) -> Result<Figures, AllocError> {
-    let mut figures = no_figures(alloc);
+fn single(
+    alloc: Global,
+    view: &View,
+    queries: &[Query<Whole>],
+    figures: &mut Figures,
+) -> Result<(), AllocError> {
     for query in queries {
         let rows = Selection {
             table: query.table,
             filter: &query.filter,
             grouping: Grouping::Whole,
         };
-        let kept = kept_of(alloc, view, rows, query.aggregate)?;
+        put_total(alloc, view, rows, query.aggregate, figures)?;
+    }
+    for kept in &figures.kept {
         figures.counts.rows = figures.counts.rows.saturating_add(kept.counts.rows);
-        put_kept(alloc, &mut figures, kept)?;
     }
     figures.counts.groups = 1;
-    Ok(figures)
+    Ok(())
 }
 
-fn no_figures(alloc: Global) -> Figures {
-    Figures {
-        counts: Counts { rows: 0, groups: 0 },
-        kept: Vec::new(alloc),
-        readings: Vec::new(alloc),
-    }
+/// Puts the totals of groups of rows behind the others, and what is read for them.
+fn put_total(
+    alloc: Global,
+    view: &View,
+    rows: Selection,
+    function: Aggregate,
+    figures: &mut Figures,
+) -> Result<(), AllocError> {
+    let mut kept = MaintainedFunction::new(alloc, rows, function);
+    kept.upkeep = Upkeep::Groups;
+    kept.counts = count(alloc, view, rows)?;
+    put_kept(alloc, rows.filter, kept, figures)
 }
 
-/// Puts a total behind the others, and what is read for it.
+/// Puts a set function behind the others, with the columns that its WHERE looks at, and what is read for it.
 fn put_kept(
     alloc: Global,
-    figures: &mut Figures,
+    filter: &Cond,
     kept: MaintainedFunction,
+    figures: &mut Figures,
 ) -> Result<(), AllocError> {
-    let mut columns = Vec::new(alloc);
+    let mut kept = kept;
+    add_condition(&mut kept.filter, filter, WhichRow::Own)?;
+    put_reading_of(alloc, &kept, &mut figures.readings)?;
+    figures.kept.push(kept)?;
+    Ok(())
+}
+
+/// Puts what is read for a set function behind the others, or into that of the same rows.
+fn put_reading_of(
+    alloc: Global,
+    kept: &MaintainedFunction,
+    readings: &mut Vec<Reading>,
+) -> Result<(), AllocError> {
+    let mut columns = Vec::from_slice(alloc, &kept.filter)?;
     if let Some(column) = kept.grouping.column() {
         add_column(&mut columns, column)?;
-    }
-    for column in &kept.filter {
-        add_column(&mut columns, *column)?;
     }
     if let Some(column) = column_of(kept.function) {
         add_column(&mut columns, column)?;
     }
     put_reading(
-        &mut figures.readings,
+        alloc,
         kept.table,
         kept.grouping.column(),
-        columns,
-    )?;
-    figures.kept.push(kept)?;
-    Ok(())
+        &columns,
+        readings,
+    )
 }
 
 /// Puts what is read behind the others, or into that of the same rows.
 fn put_reading(
-    readings: &mut Vec<Reading>,
+    alloc: Global,
     table: usize,
     by: Option<usize>,
-    columns: Vec<usize>,
+    columns: &[usize],
+    readings: &mut Vec<Reading>,
 ) -> Result<(), AllocError> {
     for reading in readings.iter_mut() {
         if reading.table == table && reading.by == by {
-            for column in &columns {
-                add_column(&mut reading.columns, *column)?;
-            }
-            return Ok(());
+            return add_columns(&mut reading.columns, columns);
         }
     }
-    readings.push(Reading { table, by, columns })?;
+    readings.push(Reading {
+        table,
+        by,
+        columns: Vec::from_slice(alloc, columns)?,
+    })?;
     Ok(())
 }
 
@@ -269,38 +345,6 @@ pub fn column_of(function: Aggregate) -> Option<usize> {
         | Aggregate::Min(column)
         | Aggregate::Max(column) => Some(column),
     }
-}
-
-/// The totals that are kept of groups of rows.
-fn kept_of(
-    alloc: Global,
-    view: &View,
-    rows: Selection,
-    function: Aggregate,
-) -> Result<MaintainedFunction, AllocError> {
-    let mut kept = no_total(alloc, rows, function)?;
-    kept.upkeep = Upkeep::Groups;
-    kept.counts = count(alloc, view, rows)?;
-    Ok(kept)
-}
-
-/// A set function of rows of which nothing is maintained.
-fn no_total(
-    alloc: Global,
-    rows: Selection,
-    function: Aggregate,
-) -> Result<MaintainedFunction, AllocError> {
-    let mut filter = Vec::new(alloc);
-    add_condition(&mut filter, rows.filter, WhichRow::Own)?;
-    Ok(MaintainedFunction {
-        function,
-        table: rows.table,
-        grouping: rows.grouping,
-        upkeep: Upkeep::Nothing,
-        filter,
-        beside: Vec::new(alloc),
-        counts: Counts { rows: 0, groups: 0 },
-    })
 }
 
 /// How many rows a table has.

@@ -7,8 +7,8 @@
 //! which contracts speak. (`tools/check_against.py` holds them against a reference.) Faults are those of `faults` and
 //! `diagnosis`.
 //!
-//! [`check_into`] writes all of it for a person or for an editor, and [`picture_of_refusal`] is the picture of one
-//! fault, for a program that refuses a text.
+//! [`check_into`] writes all of it for a person or for an editor, [`draw_refused`] draws the picture of one fault, for
+//! a program that refuses a text, and [`draw_refused_text`] that of one text of a program over the library.
 #![tactic(auto)]
 
 mod calls;
@@ -18,8 +18,9 @@ mod figures;
 mod naming;
 mod objects;
 mod pairs;
+mod refused_texts;
 mod texts;
 
-pub use calls::{CheckFault, Health, Style, check_into, picture_of_refusal};
-pub use faults::{Colour, Which};
-pub use texts::NamedText;
+pub use calls::{CheckFault, Health, Style, check_into, draw_refused};
+pub use faults::{Colour, NamedText, Which};
+pub use refused_texts::{RefusedText, Role, draw_refused_text};

@@ -1,66 +1,64 @@
 //! The names of tables, columns and set functions, as SQL writes them.
 
-use std::alloc::{AllocError, Global};
+use std::alloc::AllocError;
+use std::str;
 use table::{Aggregate, Catalog};
 use value::Text;
 
 /// The name of a table.
-pub fn table_name(alloc: Global, catalog: &Catalog, table: usize) -> Result<String, AllocError> {
+pub fn table_name<'a>(catalog: &'a Catalog, table: usize) -> &'a str {
     match catalog.name(table) {
-        Some(name) => name_text(alloc, name),
-        None => String::from_str(alloc, "?"),
+        Some(name) => name_text(name),
+        None => "?",
     }
 }
 
-/// A name as text.
-pub fn name_text(alloc: Global, name: &Text) -> Result<String, AllocError> {
-    format!(in alloc; "{name}")
+/// A name as text: its bytes are letters, digits and underscores.
+pub fn name_text<'a>(name: &'a Text) -> &'a str {
+    str::from_utf8(name.as_bytes()).unwrap_or("?")
 }
 
 /// The name of a column of a table.
-pub fn column_name(
-    alloc: Global,
-    catalog: &Catalog,
-    table: usize,
-    column: usize,
-) -> Result<String, AllocError> {
+pub fn column_name<'a>(catalog: &'a Catalog, table: usize, column: usize) -> &'a str {
     let Some(schema) = catalog.at(table) else {
-        return String::from_str(alloc, "?");
+        return "?";
     };
     match schema.columns().get(column) {
-        Some(column) => name_text(alloc, &column.name),
-        None => String::from_str(alloc, "?"),
+        Some(column) => name_text(&column.name),
+        None => "?",
     }
 }
 
-/// The names of columns of a table.
-pub fn column_names(
-    alloc: Global,
+/// The names of columns of a table, with commas between them.
+pub fn push_column_names(
     catalog: &Catalog,
     table: usize,
     columns: &[usize],
-) -> Result<Vec<String>, AllocError> {
-    let mut names = Vec::new(alloc);
-    for column in columns {
-        names.push(column_name(alloc, catalog, table, *column)?)?;
+    text: &mut String,
+) -> Result<(), AllocError> {
+    for (place, column) in columns.iter().enumerate() {
+        if place > 0 {
+            text.push_str(", ")?;
+        }
+        text.push_str(column_name(catalog, table, *column))?;
     }
-    Ok(names)
+    Ok(())
 }
 
 /// A set function of a table's column.
-pub fn function_name(
-    alloc: Global,
+pub fn push_function(
     catalog: &Catalog,
     table: usize,
     function: Aggregate,
-) -> Result<String, AllocError> {
+    text: &mut String,
+) -> Result<(), AllocError> {
     let (word, column) = match function {
-        Aggregate::CountRows => return String::from_str(alloc, "COUNT(*)"),
+        Aggregate::CountRows => return text.push_str("COUNT(*)"),
         Aggregate::Count(column) => ("COUNT", column),
         Aggregate::Sum(column) => ("SUM", column),
         Aggregate::Min(column) => ("MIN", column),
         Aggregate::Max(column) => ("MAX", column),
     };
-    let column = column_name(alloc, catalog, table, column)?;
-    format!(in alloc; "{word}({column})")
+    let column = column_name(catalog, table, column);
+    write!(text, "{word}({column})")
 }

@@ -1,37 +1,37 @@
 //! What was found, as JSON for editors.
 
-use crate::examinations::Examination;
-use crate::figures::{Figures, MaintainedFunction, Reading, Upkeep, figures_of, row_count};
-use crate::naming::{column_name, column_names, function_name, name_text, table_name};
-use crate::texts::NamedText;
+use crate::examinations::{Examination, Texts};
+use crate::figures::{Figures, MaintainedFunction, Reading, Upkeep, put_figures, row_count};
+use crate::naming::{column_name, name_text, push_function, table_name};
 use assertion::{Assertion, Form};
 use delta::View;
-use faults::{At, Diagnosis, Span, Which, place_of};
+use faults::{At, Diagnosis, NamedText, Span, place_of};
 use serde_json::{Value, json};
 use std::alloc::{AllocError, Global};
+use table::Catalog;
 use value::Root;
 
-/// What was found in two texts, on one line.
-pub fn object(
+/// Puts what was found in two texts behind a text, on one line.
+pub fn push_object(
     alloc: Global,
-    defs: NamedText,
-    script: Option<NamedText>,
+    texts: Texts,
     found: &Examination,
-) -> Result<String, AllocError> {
+    text: &mut String,
+) -> Result<(), AllocError> {
+    let whole = object(alloc, texts, found)?;
+    text.push_str(whole.to_string(alloc)?.as_str())?;
+    text.push_str("\n")
+}
+
+fn object(alloc: Global, texts: Texts, found: &Examination) -> Result<Value, AllocError> {
     let ok = found.faults.is_empty();
-    let faults = diagnoses(alloc, defs, script, &found.faults)?;
-    let notes = diagnoses(alloc, defs, script, &found.notes)?;
+    let tables = tables(alloc, &found.view)?;
+    let assertions = assertions(alloc, &found.view)?;
+    let faults = diagnoses(alloc, texts, &found.faults)?;
+    let notes = diagnoses(alloc, texts, &found.notes)?;
     let events = found.events;
     let sessions = found.sessions;
-    let (tables, assertions) = match &found.view {
-        Some(view) => (tables(alloc, view)?, assertions(alloc, view)?),
-        None => (Vec::new(alloc), Vec::new(alloc)),
-    };
-    let tables = Value::Array(tables);
-    let assertions = Value::Array(assertions);
-    let faults = Value::Array(faults);
-    let notes = Value::Array(notes);
-    let whole = json!(in alloc; {
+    json!(in alloc; {
         "ok": ok,
         "tables": tables,
         "assertions": assertions,
@@ -39,31 +39,19 @@ pub fn object(
         "sessions": sessions,
         "faults": faults,
         "notes": notes
-    })?;
-    let mut text = whole.to_string(alloc)?;
-    text.push_str("\n")?;
-    Ok(text)
+    })
 }
 
-fn diagnoses<'a>(
-    alloc: Global,
-    defs: NamedText<'a>,
-    script: Option<NamedText<'a>>,
-    found: &[Diagnosis],
-) -> Result<Vec<Value>, AllocError> {
+fn diagnoses(alloc: Global, texts: Texts, found: &[Diagnosis]) -> Result<Value, AllocError> {
     let mut made = Vec::new(alloc);
     for diagnosis in found {
-        let named = match (diagnosis.which, script) {
-            (Which::Script, Some(script)) => script,
-            _ => defs,
-        };
-        made.push(diagnosis_object(alloc, named, diagnosis)?)?;
+        made.push(diagnosis_object(alloc, texts.of(diagnosis.which), diagnosis)?)?;
     }
-    Ok(made)
+    Ok(Value::Array(made))
 }
 
-/// A fault: its text, its number, what is wrong, what to do, and where it is. Lines and columns are from 1, and a
-/// column is a byte; `end` is the first byte behind it.
+/// A fault: its text, its number, what is wrong, what to do, and where it is. Lines and columns are from 1, and columns
+/// are those of a terminal; `start` and `end` are bytes, and `end` is the first one behind it.
 fn diagnosis_object(
     alloc: Global,
     named: NamedText,
@@ -79,8 +67,7 @@ fn diagnosis_object(
     let file = named.name;
     let number = diagnosis.number;
     let what = diagnosis.what.as_str();
-    let advice = texts(alloc, &diagnosis.advice)?;
-    let advice = Value::Array(advice);
+    let advice = lines(alloc, diagnosis.advice.as_str())?;
     json!(in alloc; {
         "file": file,
         "fault": number,
@@ -96,34 +83,42 @@ fn diagnosis_object(
     })
 }
 
-fn texts(alloc: Global, found: &[String]) -> Result<Vec<Value>, AllocError> {
+/// The lines of a text.
+fn lines(alloc: Global, text: &str) -> Result<Value, AllocError> {
     let mut made = Vec::new(alloc);
-    for text in found {
-        made.push(Value::try_from_str(alloc, text.as_str())?)?;
+    for line in text.lines() {
+        made.push(Value::try_from_str(alloc, line)?)?;
     }
-    Ok(made)
+    Ok(Value::Array(made))
 }
 
-fn tables(alloc: Global, view: &View) -> Result<Vec<Value>, AllocError> {
+/// The tables, where definitions were taken in.
+fn tables(alloc: Global, view: &Option<View>) -> Result<Value, AllocError> {
     let mut made = Vec::new(alloc);
-    for table in 0..view.catalog().len() {
-        let name = table_name(alloc, view.catalog(), table)?;
-        let key = column_name(alloc, view.catalog(), table, view.key_column(table))?;
-        let rows = row_count(view, table);
-        let (name, key) = (name.as_str(), key.as_str());
-        made.push(json!(in alloc; {"name": name, "key": key, "rows": rows})?)?;
+    if let Some(view) = view {
+        for table in 0..view.catalog().len() {
+            made.push(table_object(alloc, view, table)?)?;
+        }
     }
-    Ok(made)
+    Ok(Value::Array(made))
 }
 
-fn assertions(alloc: Global, view: &View) -> Result<Vec<Value>, AllocError> {
+fn table_object(alloc: Global, view: &View, table: usize) -> Result<Value, AllocError> {
+    let name = table_name(view.catalog(), table);
+    let key = column_name(view.catalog(), table, view.key_column(table));
+    let rows = row_count(view, table);
+    json!(in alloc; {"name": name, "key": key, "rows": rows})
+}
+
+/// The assertions, where definitions were taken in.
+fn assertions(alloc: Global, view: &Option<View>) -> Result<Value, AllocError> {
     let mut made = Vec::new(alloc);
-    for place in 0..view.assertions().len() {
-        if let Some(assertion) = view.assertions().get(place) {
+    if let Some(view) = view {
+        for (place, assertion) in view.assertions().iter().enumerate() {
             made.push(assertion_object(alloc, view, place, assertion)?)?;
         }
     }
-    Ok(made)
+    Ok(Value::Array(made))
 }
 
 /// An assertion: its form, its figures, when it is checked and its truth, with the least bad root where it is false.
@@ -133,9 +128,19 @@ fn assertion_object(
     place: usize,
     assertion: &Assertion,
 ) -> Result<Value, AllocError> {
-    let figures = figures_of(alloc, view, &assertion.form)?;
-    let name = name_text(alloc, &assertion.name)?;
-    let name = name.as_str();
+    let mut figures = Figures::new(alloc);
+    put_figures(alloc, view, &assertion.form, &mut figures)?;
+    with_figures(alloc, view, place, assertion, &figures)
+}
+
+fn with_figures(
+    alloc: Global,
+    view: &View,
+    place: usize,
+    assertion: &Assertion,
+    figures: &Figures,
+) -> Result<Value, AllocError> {
+    let name = name_text(&assertion.name);
     let form = match &assertion.form {
         Form::ByRow { .. } => "rows",
         Form::ByGroup { .. } => "groups",
@@ -144,8 +149,8 @@ fn assertion_object(
     let deferrable = assertion.attributes.deferrable;
     let deferred = assertion.attributes.initially_deferred;
     let (verdict, root) = truth(alloc, view, place)?;
-    let kept = Value::Array(all_kept(alloc, view, &assertion.form, &figures)?);
-    let reads = Value::Array(all_readings(alloc, view, &figures)?);
+    let kept = all_kept(alloc, view.catalog(), &assertion.form, &figures.kept)?;
+    let reads = all_readings(alloc, view.catalog(), &figures.readings)?;
     let rows = figures.counts.rows;
     let groups = figures.counts.groups;
     json!(in alloc; {
@@ -180,15 +185,15 @@ fn root_text(alloc: Global, root: &Root) -> Result<Value, AllocError> {
 
 fn all_kept(
     alloc: Global,
-    view: &View,
+    catalog: &Catalog,
     form: &Form,
-    figures: &Figures,
-) -> Result<Vec<Value>, AllocError> {
+    all: &[MaintainedFunction],
+) -> Result<Value, AllocError> {
     let mut made = Vec::new(alloc);
-    for kept in &figures.kept {
-        made.push(one_kept(alloc, view, form, kept)?)?;
+    for kept in all {
+        made.push(one_kept(alloc, catalog, form, kept)?)?;
     }
-    Ok(made)
+    Ok(Value::Array(made))
 }
 
 /// For what a total is maintained.
@@ -202,25 +207,18 @@ fn upkeep_name(upkeep: Upkeep) -> &'static str {
 
 fn one_kept(
     alloc: Global,
-    view: &View,
+    catalog: &Catalog,
     form: &Form,
     kept: &MaintainedFunction,
 ) -> Result<Value, AllocError> {
-    let catalog = view.catalog();
-    let function = function_name(alloc, catalog, kept.table, kept.function)?;
-    let table = table_name(alloc, catalog, kept.table)?;
-    let by = column_or_null(alloc, view, kept.table, kept.grouping.column())?;
-    let names = column_names(alloc, catalog, kept.table, &kept.filter)?;
-    let filter = Value::Array(texts(alloc, &names)?);
-    let beside = match form {
-        Form::ByRow { table, .. } => column_names(alloc, catalog, *table, &kept.beside)?,
-        Form::ByGroup { .. } | Form::Single { .. } => Vec::new(alloc),
-    };
-    let beside = Value::Array(texts(alloc, &beside)?);
+    let function = function_text(alloc, catalog, kept)?;
+    let table = table_name(catalog, kept.table);
+    let by = column_or_null(alloc, catalog, kept.table, kept.grouping.column())?;
+    let filter = columns(alloc, catalog, kept.table, &kept.filter)?;
+    let beside = columns_beside(alloc, catalog, form, kept)?;
     let upkeep = upkeep_name(kept.upkeep);
     let rows = kept.counts.rows;
     let groups = kept.counts.groups;
-    let (function, table) = (function.as_str(), table.as_str());
     json!(in alloc; {
         "function": function,
         "table": table,
@@ -233,31 +231,70 @@ fn one_kept(
     })
 }
 
+fn function_text(
+    alloc: Global,
+    catalog: &Catalog,
+    kept: &MaintainedFunction,
+) -> Result<Value, AllocError> {
+    let mut text = String::new(alloc);
+    push_function(catalog, kept.table, kept.function, &mut text)?;
+    Ok(Value::String(text))
+}
+
+/// The columns of the row around that a set function looks at.
+fn columns_beside(
+    alloc: Global,
+    catalog: &Catalog,
+    form: &Form,
+    kept: &MaintainedFunction,
+) -> Result<Value, AllocError> {
+    match form {
+        Form::ByRow { table, .. } => columns(alloc, catalog, *table, &kept.beside),
+        Form::ByGroup { .. } | Form::Single { .. } => Ok(Value::Array(Vec::new(alloc))),
+    }
+}
+
+/// The names of columns of a table.
+fn columns(
+    alloc: Global,
+    catalog: &Catalog,
+    table: usize,
+    columns: &[usize],
+) -> Result<Value, AllocError> {
+    let mut made = Vec::new(alloc);
+    for column in columns {
+        made.push(Value::try_from_str(alloc, column_name(catalog, table, *column))?)?;
+    }
+    Ok(Value::Array(made))
+}
+
 fn column_or_null(
     alloc: Global,
-    view: &View,
+    catalog: &Catalog,
     table: usize,
     column: Option<usize>,
 ) -> Result<Value, AllocError> {
     match column {
-        Some(column) => Ok(Value::String(column_name(alloc, view.catalog(), table, column)?)),
+        Some(column) => Value::try_from_str(alloc, column_name(catalog, table, column)),
         None => Ok(Value::Null),
     }
 }
 
-fn all_readings(alloc: Global, view: &View, figures: &Figures) -> Result<Vec<Value>, AllocError> {
+fn all_readings(
+    alloc: Global,
+    catalog: &Catalog,
+    readings: &[Reading],
+) -> Result<Value, AllocError> {
     let mut made = Vec::new(alloc);
-    for reading in &figures.readings {
-        made.push(one_reading(alloc, view, reading)?)?;
+    for reading in readings {
+        made.push(one_reading(alloc, catalog, reading)?)?;
     }
-    Ok(made)
+    Ok(Value::Array(made))
 }
 
-fn one_reading(alloc: Global, view: &View, reading: &Reading) -> Result<Value, AllocError> {
-    let table = table_name(alloc, view.catalog(), reading.table)?;
-    let by = column_or_null(alloc, view, reading.table, reading.by)?;
-    let names = column_names(alloc, view.catalog(), reading.table, &reading.columns)?;
-    let columns = Value::Array(texts(alloc, &names)?);
-    let table = table.as_str();
+fn one_reading(alloc: Global, catalog: &Catalog, reading: &Reading) -> Result<Value, AllocError> {
+    let table = table_name(catalog, reading.table);
+    let by = column_or_null(alloc, catalog, reading.table, reading.by)?;
+    let columns = columns(alloc, catalog, reading.table, &reading.columns)?;
     json!(in alloc; {"table": table, "by": by, "columns": columns})
 }

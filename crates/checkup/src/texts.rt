@@ -1,73 +1,80 @@
 //! What was found, as a person reads it.
 
-use crate::examinations::{Examination, MOST_NOTES};
+use crate::examinations::{Examination, MOST_NOTES, Texts};
 use crate::figures::{
-    Figures, Grouping, MaintainedFunction, Reading, Upkeep, figures_of, row_count,
+    Figures, Grouping, MaintainedFunction, Reading, Upkeep, put_figures, row_count,
 };
-use crate::naming::{column_name, column_names, function_name, table_name};
+use crate::naming::{column_name, push_column_names, push_function, table_name};
 use assertion::{Assertion, Form};
 use delta::View;
-use faults::{Colour, Diagnosis, Which, picture};
+use faults::{Colour, Diagnosis, draw};
 use std::alloc::{AllocError, Global};
 use table::Catalog;
 use value::Truth;
 
-/// A text with the name that it is shown by.
-#[derive(Clone, Copy)]
-pub struct NamedText<'a> {
-    pub name: &'a str,
-    pub bytes: &'a [u8],
-}
-
-/// What was found in two texts: tables, assertions, notes and faults, and last whether all is well.
+/// Shows what was found in two texts: tables, assertions, notes and faults, and last whether all is well.
 pub fn show(
     alloc: Global,
-    defs: NamedText,
-    script: Option<NamedText>,
+    texts: Texts,
     found: &Examination,
     colour: Colour,
-) -> Result<String, AllocError> {
-    let mut shown = String::new(alloc);
+    shown: &mut String,
+) -> Result<(), AllocError> {
     if let Some(view) = &found.view {
-        show_tables(alloc, view, &mut shown, colour)?;
-        for place in 0..view.assertions().len() {
-            show_assertion(alloc, view, place, &mut shown, colour)?;
-        }
-        if !shown.is_empty() {
-            shown.push_str("\n")?;
-        }
+        show_view(alloc, view, colour, shown)?;
     }
-    for note in &found.notes {
-        shown.push_str("This statement is refused in every transaction:\n")?;
-        show_diagnosis(alloc, defs, script, note, &mut shown, colour)?;
-    }
-    if found.notes.len() >= MOST_NOTES {
-        shown.push_str("(The statements behind it were not looked at.)\n")?;
-    }
+    show_notes(texts, &found.notes, colour, shown)?;
     for fault in &found.faults {
-        show_diagnosis(alloc, defs, script, fault, &mut shown, colour)?;
+        show_diagnosis(texts, fault, colour, shown)?;
     }
     if found.faults.is_empty() {
-        show_ending(found, script.is_some(), &mut shown, colour)?;
+        show_ending(found, texts.script.is_some(), colour, shown)?;
     }
-    Ok(shown)
+    Ok(())
+}
+
+/// The tables and the assertions.
+fn show_view(
+    alloc: Global,
+    view: &View,
+    colour: Colour,
+    shown: &mut String,
+) -> Result<(), AllocError> {
+    show_tables(view, colour, shown)?;
+    for place in 0..view.assertions().len() {
+        show_assertion(alloc, view, place, colour, shown)?;
+    }
+    if !shown.is_empty() {
+        shown.push_str("\n")?;
+    }
+    Ok(())
+}
+
+/// The first statements that are always refused.
+fn show_notes(
+    texts: Texts,
+    notes: &[Diagnosis],
+    colour: Colour,
+    shown: &mut String,
+) -> Result<(), AllocError> {
+    for note in notes {
+        shown.push_str("This statement is refused in every transaction:\n")?;
+        show_diagnosis(texts, note, colour, shown)?;
+    }
+    if notes.len() >= MOST_NOTES {
+        shown.push_str("(The statements behind it were not looked at.)\n")?;
+    }
+    Ok(())
 }
 
 /// A fault or a note in the text that it is of.
-fn show_diagnosis<'a>(
-    alloc: Global,
-    defs: NamedText<'a>,
-    script: Option<NamedText<'a>>,
+fn show_diagnosis(
+    texts: Texts,
     diagnosis: &Diagnosis,
-    shown: &mut String,
     colour: Colour,
+    shown: &mut String,
 ) -> Result<(), AllocError> {
-    let named = match (diagnosis.which, script) {
-        (Which::Script, Some(script)) => script,
-        _ => defs,
-    };
-    let drawn = picture(alloc, named.name, named.bytes, diagnosis, colour)?;
-    shown.push_str(drawn.as_str())?;
+    draw(texts.of(diagnosis.which), diagnosis, colour, shown)?;
     shown.push_str("\n")
 }
 
@@ -75,8 +82,8 @@ fn show_diagnosis<'a>(
 fn show_ending(
     found: &Examination,
     has_script: bool,
-    shown: &mut String,
     colour: Colour,
+    shown: &mut String,
 ) -> Result<(), AllocError> {
     let (green, end) = (colour.green(), colour.end());
     write!(shown, "{green}OK{end}")?;
@@ -87,19 +94,12 @@ fn show_ending(
     shown.push_str("\n")
 }
 
-fn show_tables(
-    alloc: Global,
-    view: &View,
-    shown: &mut String,
-    colour: Colour,
-) -> Result<(), AllocError> {
+fn show_tables(view: &View, colour: Colour, shown: &mut String) -> Result<(), AllocError> {
     let (bold, end) = (colour.bold(), colour.end());
     for table in 0..view.catalog().len() {
-        let name = table_name(alloc, view.catalog(), table)?;
-        let key = column_name(alloc, view.catalog(), table, view.key_column(table))?;
+        let name = table_name(view.catalog(), table);
+        let key = column_name(view.catalog(), table, view.key_column(table));
         let rows = row_count(view, table);
-        let name = name.as_str();
-        let key = key.as_str();
         writeln!(
             shown,
             "{bold}TABLE {name}{end}: rows {rows}, in the order of the key {key}"
@@ -112,22 +112,34 @@ fn show_assertion(
     alloc: Global,
     view: &View,
     place: usize,
-    shown: &mut String,
     colour: Colour,
+    shown: &mut String,
 ) -> Result<(), AllocError> {
     let Some(assertion) = view.assertions().get(place) else {
         return Ok(());
     };
-    let figures = figures_of(alloc, view, &assertion.form)?;
-    show_verdict(view, place, assertion, shown, colour)?;
-    show_form(alloc, view.catalog(), &assertion.form, &figures, shown)?;
+    show_verdict(view, place, assertion, colour, shown)?;
+    let mut figures = Figures::new(alloc);
+    show_figures(alloc, view, assertion, &mut figures, shown)
+}
+
+/// What an assertion costs. `figures` has none yet.
+fn show_figures(
+    alloc: Global,
+    view: &View,
+    assertion: &Assertion,
+    figures: &mut Figures,
+    shown: &mut String,
+) -> Result<(), AllocError> {
+    put_figures(alloc, view, &assertion.form, figures)?;
+    show_form(view.catalog(), &assertion.form, figures, shown)?;
     let checked = time_of_check(assertion);
     writeln!(shown, "  checked  {checked}")?;
     for kept in &figures.kept {
-        show_kept(alloc, view, kept, &assertion.form, shown)?;
+        show_kept(view.catalog(), kept, &assertion.form, shown)?;
     }
     for reading in &figures.readings {
-        show_reading(alloc, view, reading, &assertion.form, shown)?;
+        show_reading(view, reading, &assertion.form, shown)?;
     }
     Ok(())
 }
@@ -137,8 +149,8 @@ fn show_verdict(
     view: &View,
     place: usize,
     assertion: &Assertion,
-    shown: &mut String,
     colour: Colour,
+    shown: &mut String,
 ) -> Result<(), AllocError> {
     if place >= view.assertions().len() {
         return Ok(());
@@ -174,7 +186,6 @@ pub fn time_of_check(assertion: &Assertion) -> &'static str {
 }
 
 fn show_form(
-    alloc: Global,
     catalog: &Catalog,
     form: &Form,
     figures: &Figures,
@@ -184,14 +195,12 @@ fn show_form(
     let groups = figures.counts.groups;
     match form {
         Form::ByRow { table, .. } => {
-            let name = table_name(alloc, catalog, *table)?;
-            let name = name.as_str();
+            let name = table_name(catalog, *table);
             writeln!(shown, "  form     by rows of {name}: rows {rows}")
         }
         Form::ByGroup { table, group, .. } => {
-            let name = table_name(alloc, catalog, *table)?;
-            let by = column_name(alloc, catalog, *table, *group)?;
-            let (name, by) = (name.as_str(), by.as_str());
+            let name = table_name(catalog, *table);
+            let by = column_name(catalog, *table, *group);
             writeln!(
                 shown,
                 "  form     by groups of {name} by {by}: rows {rows}, groups {groups}"
@@ -211,43 +220,48 @@ fn upkeep_word(upkeep: Upkeep) -> &'static str {
 
 /// What is maintained of a set function.
 fn show_kept(
-    alloc: Global,
-    view: &View,
+    catalog: &Catalog,
     kept: &MaintainedFunction,
     form: &Form,
     shown: &mut String,
 ) -> Result<(), AllocError> {
-    let catalog = view.catalog();
-    let function = function_name(alloc, catalog, kept.table, kept.function)?;
-    let table = table_name(alloc, catalog, kept.table)?;
-    let function = function.as_str();
-    let table = table.as_str();
-    let word = upkeep_word(kept.upkeep);
-    write!(shown, "  {word}{function} of {table}")?;
-    if let Some(column) = kept.grouping.column() {
-        let by = column_name(alloc, catalog, kept.table, column)?;
-        let by = by.as_str();
-        write!(shown, " by {by}")?;
-    }
-    if let (Grouping::Linked(link), Form::ByRow { table, .. }) = (kept.grouping, form) {
-        let name = table_name(alloc, catalog, *table)?;
-        let outer = column_name(alloc, catalog, *table, link.outer)?;
-        let (name, outer) = (name.as_str(), outer.as_str());
-        write!(shown, ", linked to {name}.{outer}")?;
-    }
+    shown.push_str("  ")?;
+    shown.push_str(upkeep_word(kept.upkeep))?;
+    push_function(catalog, kept.table, kept.function, shown)?;
+    show_grouping(catalog, kept, form, shown)?;
     let before = ", WHERE on ";
-    show_columns(alloc, catalog, kept.table, &kept.filter, before, shown)?;
+    show_columns(catalog, kept.table, &kept.filter, before, shown)?;
     if let Form::ByRow { table, .. } = form {
         let before = ", for each row beside its ";
-        show_columns(alloc, catalog, *table, &kept.beside, before, shown)?;
+        show_columns(catalog, *table, &kept.beside, before, shown)?;
     }
     let (rows, groups) = (kept.counts.rows, kept.counts.groups);
     writeln!(shown, ": rows {rows}, groups {groups}")
 }
 
+/// The table of a set function, and how its rows go into groups.
+fn show_grouping(
+    catalog: &Catalog,
+    kept: &MaintainedFunction,
+    form: &Form,
+    shown: &mut String,
+) -> Result<(), AllocError> {
+    let table = table_name(catalog, kept.table);
+    write!(shown, " of {table}")?;
+    if let Some(column) = kept.grouping.column() {
+        let by = column_name(catalog, kept.table, column);
+        write!(shown, " by {by}")?;
+    }
+    if let (Grouping::Linked(link), Form::ByRow { table, .. }) = (kept.grouping, form) {
+        let name = table_name(catalog, *table);
+        let outer = column_name(catalog, *table, link.outer);
+        write!(shown, ", linked to {name}.{outer}")?;
+    }
+    Ok(())
+}
+
 /// Some columns of a table with the words before them; nothing where there is none.
 fn show_columns(
-    alloc: Global,
     catalog: &Catalog,
     table: usize,
     columns: &[usize],
@@ -257,48 +271,35 @@ fn show_columns(
     if columns.is_empty() {
         return Ok(());
     }
-    let names = column_names(alloc, catalog, table, columns)?;
-    let names = names.join(alloc, ", ")?;
-    let names = names.as_str();
-    write!(shown, "{before}{names}")
+    shown.push_str(before)?;
+    push_column_names(catalog, table, columns, shown)
 }
 
 /// What a check of a root reads.
 fn show_reading(
-    alloc: Global,
     view: &View,
     reading: &Reading,
     form: &Form,
     shown: &mut String,
 ) -> Result<(), AllocError> {
     let catalog = view.catalog();
-    let table = table_name(alloc, catalog, reading.table)?;
-    let table = table.as_str();
-    let names = column_names(alloc, catalog, reading.table, &reading.columns)?;
-    let names = names.join(alloc, ", ")?;
-    let names = if names.is_empty() {
-        "no column"
-    } else {
-        names.as_str()
-    };
+    let table = table_name(catalog, reading.table);
     match reading.by {
-        None => writeln!(shown, "  reads    all rows of {table}: {names}"),
+        None => write!(shown, "  reads    all rows of {table}: ")?,
         Some(column) => {
-            let by = column_name(alloc, catalog, reading.table, column)?;
-            let by = by.as_str();
+            let by = column_name(catalog, reading.table, column);
             if is_root(form, reading) && column == view.key_column(reading.table) {
-                writeln!(
-                    shown,
-                    "  reads    one row of {table} by its key {by}: {names}"
-                )
+                write!(shown, "  reads    one row of {table} by its key {by}: ")?;
             } else {
-                writeln!(
-                    shown,
-                    "  reads    the rows of {table} with one {by}: {names}"
-                )
+                write!(shown, "  reads    the rows of {table} with one {by}: ")?;
             }
         }
     }
+    if reading.columns.is_empty() {
+        shown.push_str("no column")?;
+    }
+    push_column_names(catalog, reading.table, &reading.columns, shown)?;
+    shown.push_str("\n")
 }
 
 /// Whether a reading is of the row of a root.

@@ -13,3 +13,4 @@ pub mod Weighing
 pub mod Seating
 pub mod Safe
 pub mod Continuing
+pub mod Asking

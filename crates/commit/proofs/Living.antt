@@ -272,6 +272,11 @@ module _ (now : EngineState) (line : ScriptLine) (place : ℕ) (seat : Seat) (co
     is_after (Err error) known commits seats same unchanged =
         λ i. record { core = same.0 i; seats = (ap (slice_set now.seats place) same.1 ∙ unchanged) i }
 
+-- what holds of the answer that is given, or that there was none, holds of an answer
+pub if_answered : {E : Type 0} (answered : Result Answer E) (P : Answer → Type 0) → P (as_answer answered) → IfOk answered P
+if_answered (Ok answer) P p = p
+if_answered (Err error) P p = tt
+
 -- where an element of a list stood before the one at a place was taken out
 before_removal : (place i : ℕ) → ℕ
 before_removal zero i = suc i

@@ -9,3 +9,4 @@ pub mod Fitting
 pub mod Safe
 pub mod Epochs
 pub mod Verdicts
+pub mod Keepers

@@ -8,14 +8,17 @@ ghost use Rattle.conflict.specs.Held.{is_held};
 ghost use Rattle.conflict.specs.Live.{has_begin_number, least_writing, may_another_ask, without};
 ghost use Rattle.alone.specs.Alone.{IsSound};
 ghost use Rattle.alone.specs.Commits.{HasNoWriteConflict, IsLog};
+ghost use Rattle.alone.specs.Epoch.{IsEpoch};
 ghost use Rattle.alone.specs.Order.{least_out};
-ghost use Rattle.txn.specs.Transactions.{transaction_at_begin, truth_of};
+ghost use Rattle.txn.specs.Transactions.{outcome_of, transaction_at_begin, truth_of};
 ghost use Rattle.commit.specs.Cores.{IsCommitAnswer, IsLive, IsSerializable, IsUncommitted, core_after_commit, core_after_end, core_after_finish, locks_of, log_of, newest_tables, order_of, pending_txn, reach_with, reads_asked, record_of, record_with, without_prepared, with_begun, with_commit, with_prepared};
 ghost use Rattle.commit.specs.Decisions.{IsDecision, IsJudgment};
+ghost use Rattle.commit.specs.Keepers.{IsMade, was_kept};
 ghost use Rattle.commit.specs.Runs.{empty_core};
 ghost use Rattle.commit.specs.Safe.{IsSafeReader};
 
 use crate::decisions::{Decision, refuse_for_triple, refuse_for_writer};
+use crate::keepers::{Keeper, Kept};
 use crate::prepared::{Prepared, give_up};
 use alone::{Record, RefusedCommit, commits_have_an_order, reach_of, replay_answers_again};
 use conflict::{Candidate, Judgment, Live, is_safe, judge, put_in_order};
@@ -181,18 +184,48 @@ impl Core {
         ensures refused { IfErr result (λ fault.
             IsUncommitted self.old session.now txn fault.refusal fault.txn self.new) }
     {
-        let closed = match txn.close_check() {
-            Ok(closed) => closed,
-            Err(CloseFailure { txn }) => {
-                return Err(CommitFailure {
-                    refusal: Refusal::NoMemory,
-                    txn: Some(txn),
-                });
-            }
-        };
+        let closed = close(txn)?;
         let number = self.prepare(session, closed)?;
         self.finish();
         Ok(number)
+    }
+
+    /// COMMIT as [`Core::commit`] answers it, but a commit that is accepted counts only once it is kept. Where it could
+    /// not be kept nothing has changed, and the transaction is given back.
+    ///
+    /// # Errors
+    ///
+    /// Those of [`Core::commit`]. Nobody was asked to keep anything then.
+    pub fn commit_kept<K: Keeper>(
+        &mut self,
+        session: &Text,
+        txn: Txn,
+        keeper: &mut K,
+    ) -> Result<Kept, CommitFailure>
+        requires live { IsLive self.old txn }
+        requires idle { self.old.prepared ≡ None }
+        requires expected { K.expects keeper.old (length self.old.records + 1) }
+        ensures made { IfOk result (λ kept. IsMade self.old session.now txn kept self.new) }
+        ensures kept { IfOk result (λ kept.
+            K.did_keep keeper.old keeper.new (length self.old.records + 1) (outcome_of txn).changes (was_kept kept)) }
+        ensures refused { IfErr result (λ fault.
+            IsUncommitted self.old session.now txn fault.refusal fault.txn self.new) }
+        ensures unasked { OnErr result (keeper.new ≡ keeper.old) }
+    {
+        let closed = close(txn)?;
+        let number = self.prepare(session, closed)?;
+        let was_kept = match &self.prepared {
+            Some(prepared) => keeper.keep(number, prepared.closed.changes()),
+            None => unreachable!(),
+        };
+        if was_kept {
+            self.finish();
+            return Ok(Kept::Committed(number));
+        }
+        match self.cancel() {
+            Some(closed) => Ok(Kept::NotKept(closed.reopen())),
+            None => unreachable!(),
+        }
     }
 
     /// Prepares a commit: decides what the COMMIT of the transaction is answered, as [`Core::commit`] does, and
@@ -382,6 +415,13 @@ impl Core {
         ensures none { IfNone result (self.now.prepared ≡ None) }
     {
         self.prepared.as_ref()
+    }
+
+    /// Each commit was accepted over those before it, and recorded as it ran on the tables of its snapshot.
+    pub fn recall_epoch(&self)
+        ensures { IsEpoch self.now.declared self.now.start (log_of self.now) }
+    {
+        let _ = &self.loaded;
     }
 
     /// Each commit was accepted over those before it.
@@ -754,6 +794,21 @@ fn note_refused(
     };
     refused.push(entry)?;
     Ok(())
+}
+
+/// Closes a transaction, or gives it back for want of memory.
+fn close(txn: Txn) -> Result<ClosedTransaction, CommitFailure>
+    ensures closed { IfOk result (λ closed. closed ≡ txn) }
+    ensures refusal { IfErr result (λ fault. fault.refusal ≡ NoMemory) }
+    ensures back { IfErr result (λ fault. fault.txn ≡ Some txn) }
+{
+    match txn.close_check() {
+        Ok(closed) => Ok(closed),
+        Err(CloseFailure { txn }) => Err(CommitFailure {
+            refusal: Refusal::NoMemory,
+            txn: Some(txn),
+        }),
+    }
 }
 
 /// The transaction is given back for want of memory, as it was before its COMMIT.

@@ -1,12 +1,13 @@
 //! Events of many sessions, one after the other.
 
-ghost use Rattle.std.specs.Prelude.{◌≡◌, ◌≤◌, ◌≢◌, [], true, false, is_some, length, map, nat_le, take, IfOk, IfErr, IfSome, OnErr, OnOk, Err};
+ghost use Rattle.std.specs.Prelude.{◌≡◌, ◌≤◌, ◌≢◌, ◌+◌, [], true, false, is_some, length, map, nat_le, take, IfOk, IfErr, IfSome, OnErr, OnOk, Err};
 ghost use Rattle.value.specs.declared.refusals.Refusal.TheVariants.{NoMemory};
 ghost use Rattle.alone.specs.Alone.{IsSound};
 ghost use Rattle.commit.specs.Cores.{IsSerializable, newest_tables};
 ghost use Rattle.commit.specs.Epochs.{IsNextEpoch, is_any_open, next_start_of};
 ghost use Rattle.commit.specs.Events.{IsAnswered, after, as_answer, without_session};
 ghost use Rattle.commit.specs.Fitting.{AllFit};
+ghost use Rattle.commit.specs.Keepers.{IsAskedFor};
 ghost use Rattle.commit.specs.Runs.{AreAnswers, IsNext, beginning, led_to, seats_with, seats_with_all};
 ghost use Rattle.commit.specs.Told.{WereToldAlone};
 ghost use Rattle.commit.specs.Verdicts.{live_truths};
@@ -14,8 +15,11 @@ ghost use Rattle.std.specs.Option.{option_map};
 ghost use Rattle.txn.specs.Transactions.{truths_on};
 
 use crate::cores::Core;
+use crate::keepers::{Keeper, Unanswered};
 use crate::laws::answers_lead_to_a_serial_order;
-use crate::seats::{Seat, answer_event, find_seat, roll_back, seat_few, seat_session};
+use crate::seats::{
+    Seat, answer_event, answer_event_kept, find_seat, roll_back, seat_few, seat_session,
+};
 use crate::verdicts::list_live_truths;
 use alone::Answer;
 use definitions::NewAssertion;
@@ -138,6 +142,26 @@ impl Engine {
         };
         let answered = answer_event(&mut self.core, &mut self.seats[place], line);
         as_answer(answered)
+    }
+
+    /// Answers an event as [`Engine::answer`] does, but a commit counts only once it is kept. An event that is not
+    /// answered has changed nothing: there was no memory, or its commit could not be kept.
+    pub fn answer_kept<K: Keeper>(
+        &mut self,
+        line: &ScriptLine,
+        keeper: &mut K,
+    ) -> Result<Answer, Unanswered>
+        requires expected { K.expects keeper.old (length self.old.core.records + 1) }
+        ensures answered { IfOk result (IsAnswered self.old line.now) }
+        ensures after { IfOk result (λ answer. self.new ≡ after self.old line.now answer) }
+        ensures same { OnErr result (self.new ≡ self.old) }
+        ensures asked { IsAskedFor K.did_keep keeper.old keeper.new self.old.core.records self.new.core.records
+            result }
+    {
+        let Some(place) = find_seat(self.seats.as_slice(), &line.session) else {
+            return Ok(Answer::Refused(Refusal::TooManySessions));
+        };
+        answer_event_kept(&mut self.core, &mut self.seats[place], line, keeper)
     }
 
     /// Begins a new epoch, as [`Core::checkpoint`] does, and hands out what the epoch before left. The sessions keep

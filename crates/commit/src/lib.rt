@@ -44,6 +44,7 @@ mod cores;
 mod decisions;
 mod engine;
 mod epochs;
+mod keepers;
 pub mod laws;
 mod prepared;
 mod seats;
@@ -53,6 +54,7 @@ pub use admission::{admit, admit_taken, require_satisfied};
 pub use cores::{CommitFailure, Core};
 pub use engine::{Engine, Outcome, run};
 pub use epochs::{Epoch, Epochs, readmit, run_epochs};
+pub use keepers::{Keeper, Kept, Unanswered};
 pub use laws::{
     answers_lead_to_a_serial_order, replies_are_those_alone, safe_readers_are_never_refused,
 };

@@ -1,13 +1,15 @@
 //! The sessions' seats, and what an event does in one.
 
-ghost use Rattle.std.specs.Prelude.{◌≡◌, ◌<◌, [], false, true, length, nat_le, is_none, is_some, IfSome, IfOk, OnErr, OnOk, Some, None};
+ghost use Rattle.std.specs.Prelude.{◌≡◌, ◌<◌, ◌+◌, [], false, true, length, nat_le, is_none, is_some, IfSome, IfOk, OnErr, OnOk, Some, None};
 ghost use Rattle.value.specs.Ordered.{HoldsOf};
 ghost use Rattle.commit.specs.Cores.{IsLive};
 ghost use Rattle.syntax.specs.declared.statements.Event.TheVariants.{Commit, Rollback, Run};
 ghost use Rattle.commit.specs.Events.{IsReply, begin_answer, core_after, core_after_begin, found_no_memory, rollback_answer, run_answer, seat_of, takes_memory, txn_after, txn_after_begin, txn_with};
+ghost use Rattle.commit.specs.Keepers.{IsAskedFor};
 ghost use Rattle.commit.specs.Runs.{seats_with_all, seats_with};
 
 use crate::cores::{CommitFailure, Core};
+use crate::keepers::{Keeper, Kept, Unanswered};
 use alone::Answer;
 use std::alloc::{AllocError, Global};
 use std::mem;
@@ -124,6 +126,32 @@ pub fn answer_event(
     }
 }
 
+/// Answers an event of the session in a seat, as [`answer_event`] does, but a commit counts only once it is kept.
+pub fn answer_event_kept<K: Keeper>(
+    core: &mut Core,
+    seat: &mut Seat,
+    line: &ScriptLine,
+    keeper: &mut K,
+) -> Result<Answer, Unanswered>
+    requires live { HoldsOf (IsLive core.old) seat.old.txn }
+    requires idle { core.old.prepared ≡ None }
+    requires expected { K.expects keeper.old (length core.old.records + 1) }
+    ensures answered { IfOk result (IsReply core.old line.now.session line.now.event seat.old.txn) }
+    ensures known { IfOk result (λ answer. found_no_memory answer ≡ false) }
+    ensures takes { OnErr result (takes_memory line.now.event seat.old.txn ≡ true) }
+    ensures commits { IfOk result (λ answer.
+        core.new ≡ core_after core.old line.now.session line.now.event seat.old.txn answer) }
+    ensures seat { OnOk result (seat.new ≡ record seat.old { txn = txn_after core.old line.now.event seat.old.txn }) }
+    ensures same { OnErr result ((core.new ≡ core.old) × (seat.new ≡ seat.old)) }
+    ensures live { HoldsOf (IsLive core.new) seat.new.txn }
+    ensures asked { IsAskedFor K.did_keep keeper.old keeper.new core.old.records core.new.records result }
+{
+    match &line.event {
+        Event::Commit => commit_kept(core, seat, &line.session, keeper),
+        _ => Ok(answer_event(core, seat, line)?),
+    }
+}
+
 /// BEGIN, or BEGIN READ ONLY: a transaction begins on the newest tables.
 fn begin(core: &mut Core, seat: &mut Seat, read_only: bool) -> Result<Answer, AllocError>
     requires live { HoldsOf (IsLive core.old) seat.old.txn }
@@ -188,6 +216,41 @@ fn commit(core: &mut Core, seat: &mut Seat, session: &Text) -> Result<Answer, Al
         Err(CommitFailure { refusal: _, txn }) => {
             set_txn(seat, txn);
             Err(AllocError)
+        }
+    }
+}
+
+/// COMMIT of the open transaction, which counts only once it is kept.
+fn commit_kept<K: Keeper>(
+    core: &mut Core,
+    seat: &mut Seat,
+    session: &Text,
+    keeper: &mut K,
+) -> Result<Answer, Unanswered>
+    requires live { HoldsOf (IsLive core.old) seat.old.txn }
+    requires idle { core.old.prepared ≡ None }
+    requires expected { K.expects keeper.old (length core.old.records + 1) }
+    ensures answered { IfOk result (IsReply core.old session.now Commit seat.old.txn) }
+    ensures known { IfOk result (λ answer. found_no_memory answer ≡ false) }
+    ensures takes { OnErr result (takes_memory Commit seat.old.txn ≡ true) }
+    ensures commits { IfOk result (λ answer. core.new ≡ core_after core.old session.now Commit seat.old.txn answer) }
+    ensures seat { OnOk result (seat.new ≡ record seat.old { txn = None }) }
+    ensures same { OnErr result ((core.new ≡ core.old) × (seat.new ≡ seat.old)) }
+    ensures asked { IsAskedFor K.did_keep keeper.old keeper.new core.old.records core.new.records result }
+{
+    let Some(txn) = seat.txn.take() else {
+        return Ok(Answer::Refused(Refusal::NoTransaction));
+    };
+    match core.commit_kept(session, txn, keeper) {
+        Ok(Kept::Committed(number)) => Ok(Answer::Committed(number)),
+        Ok(Kept::NotKept(txn)) => {
+            set_txn(seat, Some(txn));
+            Err(Unanswered::NotKept)
+        }
+        Err(CommitFailure { refusal, txn: None }) => Ok(Answer::Refused(refusal)),
+        Err(CommitFailure { refusal: _, txn }) => {
+            set_txn(seat, txn);
+            Err(Unanswered::NoMemory)
         }
     }
 }

@@ -8,7 +8,7 @@ ghost use Rattle.delta.specs.Maintained.{AreAlike, IsGood, IsStep, IsWatched};
 use assertion::Form;
 use groups::Totals;
 use mvrows::Rows;
-use roots::{BadRoots, bad_after, bad_of, is_over, totals_after, totals_of, truth_of};
+use roots::{BadRoots, bad_of, is_over, maintained_after, totals_of, truth_of};
 use std::alloc::{AllocError, Global};
 use std::sync::Arc;
 use table::{Change, Schema};
@@ -56,8 +56,16 @@ impl Watch {
         requires watched { IsWatched schemas.now before.now form.now self.now }
         ensures { IfOk result (IsWatched schemas.now after.now form.now) }
     {
-        let totals = totals_after(alloc, schemas, before, after, form, &self.totals, change)?;
-        let bad = bad_after(alloc, schemas, after, form, &totals, &self.bad, change)?;
+        let (totals, bad) = maintained_after(
+            alloc,
+            schemas,
+            before,
+            after,
+            form,
+            &self.totals,
+            &self.bad,
+            change,
+        )?;
         let truth = truth_of(alloc, schemas, after, form, &totals, &bad)?;
         Ok(Watch { totals, bad, truth })
     }

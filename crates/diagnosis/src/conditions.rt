@@ -1,62 +1,18 @@
 //! What is wrong with a condition: a name, its shape, its types or its width.
 
-use crate::leaves::Range;
-use crate::names::{LookupScope, Unknown, first_unknown};
-use crate::parts::parts_of_condition;
-use crate::rules::{advice, wrong};
+use crate::contexts::Context;
+use crate::names::diagnose_unknown;
+use crate::parts::{Part, parts_of_condition};
+use crate::rules::{push_form, wrong};
 use crate::shapes::{Outside, in_assertion, in_where};
 use crate::types::{Mismatch, in_condition as mismatch_in_condition};
-use crate::widths::{Wide, first_wide};
+use crate::widths::{BoundedPart, Wide, first_wide, push_bounds};
 use assertcheck::DataType;
-use faults::{At, Diagnosis, Piece, Span, Which, enumeration, number_of, printable};
+use faults::{At, Diagnosis, number_of, separator};
 use form_check::Scope;
 use std::alloc::{AllocError, Global};
 use syntax::Condition;
-use table::Catalog;
 use value::{Refusal, Text};
-
-/// A definition or a line of a script, and the tables that there are where it stands.
-#[derive(Clone, Copy)]
-pub struct Context<'a> {
-    pub which: Which,
-    pub piece: &'a Piece<'a>,
-    pub catalog: &'a Catalog,
-}
-
-impl<'a> Context<'a> {
-    /// Where leaves stand, or the whole definition.
-    pub fn at(&self, span: Option<Span>) -> At {
-        match span {
-            Some(span) => At::Bytes(span),
-            None => At::Definition(self.piece.whole()),
-        }
-    }
-
-    /// What stands at leaves.
-    pub fn spelled(&self, alloc: Global, range: Range) -> Result<String, AllocError> {
-        match self.piece.leaves_from(range.from, range.to) {
-            Some(span) => printable(alloc, self.piece.bytes(span)),
-            None => String::from_str(alloc, "this"),
-        }
-    }
-
-    /// Where leaves stand.
-    pub fn range(&self, range: Range) -> At {
-        self.at(self.piece.leaves_from(range.from, range.to))
-    }
-
-    /// Where a name stands, if it is the one that is meant, in any case of letters.
-    pub fn name_at(&self, span: Option<Span>, name: &Text) -> At {
-        match span {
-            Some(found)
-                if self
-                    .piece
-                    .bytes(found)
-                    .eq_ignore_ascii_case(name.as_bytes()) => { At::Bytes(found) }
-            _ => At::Definition(self.piece.whole()),
-        }
-    }
-}
 
 /// A condition in a text.
 #[derive(Clone, Copy)]
@@ -68,119 +24,88 @@ pub struct Site<'a> {
     pub scopes: &'a [Scope<'a>],
 }
 
-/// What is wrong with a condition that was refused so, if that is found in it.
+/// Says what is wrong with a condition that was refused so, if that is found in it.
 pub fn diagnose_condition<'a>(
     alloc: Global,
     context: Context<'a>,
     site: Site<'a>,
     refusal: &Refusal,
-) -> Result<Option<Diagnosis>, AllocError> {
+    diagnosis: &mut Diagnosis,
+) -> Result<bool, AllocError> {
+    match refusal {
+        Refusal::UnknownName { name } => diagnose_names(alloc, context, site, name, diagnosis),
+        Refusal::OutsideClass => diagnose_class(alloc, context, site, diagnosis),
+        Refusal::TypeMismatch => diagnose_mismatch(alloc, context, site, diagnosis),
+        Refusal::TooWide => diagnose_bounds(alloc, context, site, diagnosis),
+        _ => Ok(false),
+    }
+}
+
+fn diagnose_names<'a>(
+    alloc: Global,
+    context: Context<'a>,
+    site: Site<'a>,
+    name: &Text,
+    diagnosis: &mut Diagnosis,
+) -> Result<bool, AllocError> {
+    let parts = parts_of_condition(alloc, site.condition, site.at)?;
+    diagnose_unknown(alloc, context, name, &parts, site.scopes, diagnosis)
+}
+
+fn diagnose_class<'a>(
+    alloc: Global,
+    context: Context<'a>,
+    site: Site<'a>,
+    diagnosis: &mut Diagnosis,
+) -> Result<bool, AllocError> {
+    let outside = if site.scopes.is_empty() {
+        in_assertion(alloc, context.catalog, site.condition, site.at)?
+    } else {
+        in_where(alloc, site.condition, site.at)?
+    };
+    diagnose_shape(context, outside, diagnosis)
+}
+
+fn diagnose_mismatch<'a>(
+    alloc: Global,
+    context: Context<'a>,
+    site: Site<'a>,
+    diagnosis: &mut Diagnosis,
+) -> Result<bool, AllocError> {
     let Site {
         condition,
         at,
         scopes,
     } = site;
-    match refusal {
-        Refusal::UnknownName { name } => {
-            let parts = parts_of_condition(alloc, condition, at)?;
-            match first_unknown(alloc, context.catalog, scopes, &parts)? {
-                Some(unknown) => Ok(Some(diagnose_name(alloc, context, name, &unknown)?)),
-                None => Ok(None),
-            }
-        }
-        Refusal::OutsideClass => {
-            let outside = if scopes.is_empty() {
-                in_assertion(alloc, context.catalog, condition, at)?
-            } else {
-                in_where(alloc, condition, at)?
-            };
-            match outside {
-                Some(outside) => Ok(Some(diagnose_shape(alloc, context, outside)?)),
-                None => Ok(None),
-            }
-        }
-        Refusal::TypeMismatch => {
-            match mismatch_in_condition(alloc, context.catalog, scopes, condition, at)? {
-                Some(mismatch) => Ok(Some(diagnose_types(alloc, context, mismatch)?)),
-                None => Ok(None),
-            }
-        }
-        Refusal::TooWide => {
-            let parts = parts_of_condition(alloc, condition, at)?;
-            match first_wide(alloc, &parts)? {
-                Some(wide) => Ok(Some(diagnose_width(alloc, context, &wide)?)),
-                None => Ok(None),
-            }
-        }
-        _ => Ok(None),
+    match mismatch_in_condition(alloc, context.catalog, scopes, condition, at)? {
+        Some(mismatch) => diagnose_types(context, mismatch, diagnosis),
+        None => Ok(false),
     }
 }
 
-/// A name that stands for nothing.
-pub fn diagnose_name(
+fn diagnose_bounds<'a>(
     alloc: Global,
-    context: Context,
-    name: &Text,
-    unknown: &Unknown,
-) -> Result<Diagnosis, AllocError> {
-    let what = match unknown.sought {
-        LookupScope::Table => format!(in alloc; "there is no table {name}")?,
-        LookupScope::Qualifier => format!(in alloc; "no table here goes by {name}")?,
-        LookupScope::Column => format!(in alloc; "there is no column {name} here")?,
-    };
-    let place = context.name_at(context.piece.leaf(unknown.leaf), name);
-    let found = Diagnosis::new(alloc, context.which, 3, what, place);
-    match unknown.nearest.found() {
-        Some(nearest) => found.with(format!(in alloc; "The nearest name is {nearest}.")?),
-        None => found.with(names_there(alloc, context, unknown)?),
-    }
+    context: Context<'a>,
+    site: Site<'a>,
+    diagnosis: &mut Diagnosis,
+) -> Result<bool, AllocError> {
+    let parts = parts_of_condition(alloc, site.condition, site.at)?;
+    diagnose_width(alloc, context, &parts, diagnosis)
 }
 
-/// At most so many names of tables are listed.
-const MOST_NAMES: usize = 8;
-
-/// Which names there are, where none is near.
-fn names_there(alloc: Global, context: Context, unknown: &Unknown) -> Result<String, AllocError> {
-    let around = unknown.around.as_str();
-    match unknown.sought {
-        LookupScope::Qualifier if around.is_empty() => String::from_str(
-            alloc,
-            "No table is around it.",
-        ),
-        LookupScope::Qualifier => format!(in alloc;
-            "The tables here go by {around}. One that was given a name goes by that name alone."
-        ),
-        LookupScope::Column if around.is_empty() => {
-            String::from_str(alloc, "A column stands in a query: (SELECT MAX(C) FROM T).")
-        }
-        LookupScope::Column => format!(in alloc;
-            "The tables here go by {around}. A text stands in single quotes."
-        ),
-        LookupScope::Table => {
-            if context.catalog.len() == 0 {
-                return String::from_str(alloc, "No table is created before it.");
-            }
-            let mut names = Vec::new(alloc);
-            for table in 0..context.catalog.len().min(MOST_NAMES) {
-                if let Some(name) = context.catalog.name(table) {
-                    names.push(format!(in alloc; "{name}")?)?;
-                }
-            }
-            let names = enumeration(alloc, &names, " and ")?;
-            format!(in alloc; "The tables before it: {names}.")
-        }
-    }
-}
-
-/// A part that is outside the class.
+/// Says what is wrong with a part that is outside the class, if there is one.
 pub fn diagnose_shape(
-    alloc: Global,
     context: Context,
-    outside: Outside,
-) -> Result<Diagnosis, AllocError> {
-    let what = String::from_str(alloc, wrong(outside.rule))?;
-    let at = context.range(outside.range);
-    Diagnosis::new(alloc, context.which, 20, what, at).with(advice(alloc, &outside)?)
+    outside: Option<Outside>,
+    diagnosis: &mut Diagnosis,
+) -> Result<bool, AllocError> {
+    let Some(outside) = outside else {
+        return Ok(false);
+    };
+    diagnosis.place(20, context.range(outside.range));
+    diagnosis.say(wrong(outside.rule))?;
+    push_form(&outside, &mut diagnosis.advice)?;
+    Ok(true)
 }
 
 /// The name of a type.
@@ -191,30 +116,29 @@ pub fn type_name(data_type: DataType) -> &'static str {
     }
 }
 
-/// Types that do not fit.
+/// Says which types do not fit. That is always found.
 pub fn diagnose_types(
-    alloc: Global,
     context: Context,
     mismatch: Mismatch,
-) -> Result<Diagnosis, AllocError> {
-    let (what, range) = match mismatch {
-        Mismatch::Compared { left, right, .. } => (
-            "INTEGER and VARCHAR are not compared",
-            Range {
-                from: left.from,
-                to: right.to,
-            },
-        ),
-        Mismatch::Computed(range) => ("there is no arithmetic with VARCHAR", range),
-        Mismatch::SumOfTexts(range) => ("there is no SUM of VARCHAR", range),
-    };
-    let what = String::from_str(alloc, what)?;
-    let advice = types_there(alloc, context, mismatch)?;
-    Diagnosis::new(alloc, context.which, 5, what, context.range(range)).with(advice)
+    diagnosis: &mut Diagnosis,
+) -> Result<bool, AllocError> {
+    diagnosis.place(5, context.range(mismatch.range()));
+    diagnosis.say(mismatched(mismatch))?;
+    push_types(context, mismatch, &mut diagnosis.advice)?;
+    Ok(true)
+}
+
+/// What is wrong with types that do not fit.
+fn mismatched(mismatch: Mismatch) -> &'static str {
+    match mismatch {
+        Mismatch::Compared { .. } => "INTEGER and VARCHAR are not compared",
+        Mismatch::Computed(_) => "there is no arithmetic with VARCHAR",
+        Mismatch::SumOfTexts(_) => "there is no SUM of VARCHAR",
+    }
 }
 
 /// Which types there are, and which there may be.
-fn types_there(alloc: Global, context: Context, mismatch: Mismatch) -> Result<String, AllocError> {
+fn push_types(context: Context, mismatch: Mismatch, advice: &mut String) -> Result<(), AllocError> {
     match mismatch {
         Mismatch::Compared {
             left,
@@ -222,80 +146,90 @@ fn types_there(alloc: Global, context: Context, mismatch: Mismatch) -> Result<St
             left_type,
             right_type,
         } => {
-            let (first, second) = (
-                context.spelled(alloc, left)?,
-                context.spelled(alloc, right)?,
-            );
             let (one, other) = (type_name(left_type), type_name(right_type));
-            format!(in alloc;
-                "{first} is of type {one}, and {second} of type {other}. A text stands in quotes, a \
-                 number without."
+            context.push_spelled(left, advice)?;
+            write!(advice, " is of type {one}, and ")?;
+            context.push_spelled(right, advice)?;
+            writeln!(
+                advice,
+                " of type {other}. A text stands in quotes, a number without."
             )
         }
         Mismatch::Computed(range) => {
-            let part = context.spelled(alloc, range)?;
-            format!(in alloc; "{part} is of type VARCHAR, and + - * take INTEGER.")
+            context.push_spelled(range, advice)?;
+            advice.push_str(" is of type VARCHAR, and + - * take INTEGER.\n")
         }
-        Mismatch::SumOfTexts(_) => String::from_str(
-            alloc,
-            "SUM takes a column of type INTEGER. COUNT, MIN and MAX take any.",
+        Mismatch::SumOfTexts(_) => advice.push_str(
+            "SUM takes a column of type INTEGER. COUNT, MIN and MAX take any.\n",
         ),
     }
+}
+
+/// Says which of some parts is an expression without a bound, if one is.
+pub fn diagnose_width(
+    alloc: Global,
+    context: Context,
+    parts: &[Part],
+    diagnosis: &mut Diagnosis,
+) -> Result<bool, AllocError> {
+    let Some(wide) = first_wide(alloc, parts)? else {
+        return Ok(false);
+    };
+    diagnosis.place(18, context.range(wide.range));
+    diagnosis.say("this can be a greater number than is computed with")?;
+    push_wide(alloc, context, wide, &mut diagnosis.advice)?;
+    diagnosis.advise(SMALLER)?;
+    Ok(true)
 }
 
 /// At most so many parts of an expression are told with their bounds.
 const MOST_PARTS: usize = 6;
 
-/// An expression without a bound.
-pub fn diagnose_width(
-    alloc: Global,
-    context: Context,
-    wide: &Wide,
-) -> Result<Diagnosis, AllocError> {
-    let mut parts = Vec::new(alloc);
-    for part in wide.parts.iter().take(MOST_PARTS) {
-        let spelled = context.spelled(alloc, part.range)?;
-        let bound = bound_text(alloc, part.bound)?;
-        parts.push(format!(in alloc; "{spelled} can reach {bound}")?)?;
-    }
-    let parts = enumeration(alloc, &parts, " and ")?;
-    let whole = if wide.is_product { "product" } else { "sum" };
-    Diagnosis::new(
-        alloc,
-        context.which,
-        18,
-        String::from_str(alloc, "this can be a greater number than is computed with")?,
-        context.range(wide.range),
-    )
-    .with(format!(in alloc; "{parts}; their {whole} passes the limit of 2^126.")?)?
-    .with(String::from_str(alloc, SMALLER)?)
-}
-
 /// What has which bound.
 const SMALLER: &str = "Compare without the product, or take factors of a smaller bound: a column, \
      MIN and MAX reach 2^50, COUNT 2^64 and SUM 2^114.";
 
-/// A bound as text: a great power of two by its exponent.
-fn bound_text(alloc: Global, bound: u128) -> Result<String, AllocError> {
+/// The bounds of the parts of an expression that has none.
+fn push_wide(
+    alloc: Global,
+    context: Context,
+    wide: Wide,
+    advice: &mut String,
+) -> Result<(), AllocError> {
+    let mut bounded = Vec::new(alloc);
+    push_bounds(alloc, wide, &mut bounded)?;
+    let mut left = bounded.len().min(MOST_PARTS);
+    for part in bounded.iter().take(MOST_PARTS) {
+        left = left.saturating_sub(1);
+        push_bounded(context, *part, advice)?;
+        advice.push_str(separator(left, " and "))?;
+    }
+    let whole = if wide.is_product { "product" } else { "sum" };
+    writeln!(advice, "; their {whole} passes the limit of 2^126.")
+}
+
+/// What a part of an expression is, and its bound: a great power of two by its exponent.
+fn push_bounded(
+    context: Context,
+    part: BoundedPart,
+    advice: &mut String,
+) -> Result<(), AllocError> {
+    context.push_spelled(part.range, advice)?;
+    let bound = part.bound;
     if bound.is_power_of_two() && bound > 1024 {
         let power = bound.trailing_zeros();
-        format!(in alloc; "2^{power}")
+        write!(advice, " can reach 2^{power}")
     } else {
-        format!(in alloc; "{bound}")
+        write!(advice, " can reach {bound}")
     }
 }
 
 /// What is said of a refusal where nothing more is known.
 pub fn diagnose_whole(
-    alloc: Global,
     context: Context,
     refusal: &Refusal,
-) -> Result<Diagnosis, AllocError> {
-    Ok(Diagnosis::new(
-        alloc,
-        context.which,
-        number_of(refusal),
-        format!(in alloc; "{refusal}")?,
-        At::Definition(context.piece.whole()),
-    ))
+    diagnosis: &mut Diagnosis,
+) -> Result<(), AllocError> {
+    diagnosis.place(number_of(refusal), At::Definition(context.piece.whole()));
+    write!(diagnosis.what, "{refusal}")
 }

@@ -1,64 +1,90 @@
 //! What is wrong with the first definition that was refused.
 
-use crate::conditions::{Context, Site, diagnose_condition, diagnose_whole};
+use crate::conditions::{Site, diagnose_condition, diagnose_whole};
+use crate::contexts::Context;
 use crate::inserts::diagnose_insert;
 use crate::refused::first_refused;
 use crate::rules::FORMS;
-use faults::{At, Diagnosis, Piece, Which, place_of};
+use faults::{At, Diagnosis, Piece, place_of};
 use std::alloc::{AllocError, Global};
 use syntax::{ColumnDefinition, Condition, Definition};
-use table::Row;
+use table::{Catalog, Row};
 use token::Kind;
 use value::{Refusal, Root, Text};
 
-/// What is wrong with definitions that were refused so when they were taken in one after the other. Their text is one
-/// of the language, and they are its definitions.
+/// A text of definitions, which is one of the language, and the definitions that it has.
+#[derive(Clone, Copy)]
+pub struct DefinitionsText<'a> {
+    pub bytes: &'a [u8],
+    pub definitions: &'a [Definition],
+}
+
+/// Says what is wrong with definitions that were refused so when they were taken in one after the other.
 pub fn diagnose_definitions(
     alloc: Global,
-    bytes: &[u8],
-    definitions: &[Definition],
+    text: DefinitionsText,
     refusal: &Refusal,
-) -> Result<Diagnosis, AllocError> {
-    let (place, before) = first_refused(alloc, definitions, refusal)?;
-    let piece = Piece::at(alloc, bytes, place)?;
+    diagnosis: &mut Diagnosis,
+) -> Result<(), AllocError> {
+    let (place, before) = first_refused(alloc, text.definitions, refusal)?;
+    diagnose_at(alloc, text, place, before.catalog(), refusal, diagnosis)
+}
+
+/// Says what is wrong with the definition at a place, before which there are these tables.
+fn diagnose_at(
+    alloc: Global,
+    text: DefinitionsText,
+    place: usize,
+    catalog: &Catalog,
+    refusal: &Refusal,
+    diagnosis: &mut Diagnosis,
+) -> Result<(), AllocError> {
+    let piece = Piece::at(alloc, text.bytes, place)?;
     let context = Context {
-        which: Which::Defs,
         piece: &piece,
-        catalog: before.catalog(),
+        catalog,
     };
-    let found = match definitions.get(place) {
-        Some(definition) => diagnose_definition(alloc, context, definition, refusal)?,
-        None => diagnose_whole(alloc, context, refusal)?,
+    let Some(definition) = text.definitions.get(place) else {
+        return diagnose_whole(context, refusal, diagnosis);
     };
-    match (refusal, definitions.get(place)) {
-        (Refusal::UnknownName { name }, Some(_)) => {
-            found.with_some(created_below(alloc, bytes, definitions, place, name)?)
+    diagnose_definition(alloc, context, definition, refusal, diagnosis)?;
+    match refusal {
+        Refusal::UnknownName { name } => {
+            push_created_below(alloc, text, place, name, &mut diagnosis.advice)
         }
-        _ => Ok(found),
+        _ => Ok(()),
     }
 }
 
-/// That a table of this name is created further down.
-fn created_below(
+/// A line that a table of this name is created further down, if one is.
+fn push_created_below(
     alloc: Global,
-    bytes: &[u8],
-    definitions: &[Definition],
+    text: DefinitionsText,
     place: usize,
     name: &Text,
-) -> Result<Option<String>, AllocError> {
+    advice: &mut String,
+) -> Result<(), AllocError> {
+    let Some(at) = created_below(text.definitions, place, name) else {
+        return Ok(());
+    };
+    let piece = Piece::at(alloc, text.bytes, at)?;
+    let line = place_of(text.bytes, piece.whole().start).line;
+    writeln!(
+        advice,
+        "{name} is created in line {line}: put its CREATE TABLE above."
+    )
+}
+
+/// The place of the CREATE TABLE of this name behind another.
+fn created_below(definitions: &[Definition], place: usize, name: &Text) -> Option<usize> {
     for (at, definition) in definitions.iter().enumerate() {
         if let Definition::Table { name: created, .. } = definition {
             if at > place && *created == *name {
-                let piece = Piece::at(alloc, bytes, at)?;
-                let line = place_of(bytes, piece.whole().start).line;
-                let told = format!(in alloc;
-                    "{name} is created in line {line}: put its CREATE TABLE above."
-                )?;
-                return Ok(Some(told));
+                return Some(at);
             }
         }
     }
-    Ok(None)
+    None
 }
 
 fn diagnose_definition(
@@ -66,95 +92,101 @@ fn diagnose_definition(
     context: Context,
     definition: &Definition,
     refusal: &Refusal,
-) -> Result<Diagnosis, AllocError> {
+    diagnosis: &mut Diagnosis,
+) -> Result<(), AllocError> {
     match definition {
         Definition::Table { name, columns } => {
-            diagnose_table(alloc, context, name, columns.as_slice(), refusal)
+            diagnose_table(context, name, columns.as_slice(), refusal, diagnosis)
         }
         Definition::Assertion {
             name,
             condition,
             ..
-        } => match refusal {
-            Refusal::NameTaken { .. } => name_taken(alloc, context, "an assertion", name),
-            Refusal::AttributeClash { .. } => attributes_at_odds(alloc, context),
-            _ => diagnose_assertion(alloc, context, condition, refusal),
-        },
-        Definition::Insert(insert) => diagnose_insert(alloc, context, insert, 0, refusal),
+        } => diagnose_assertion(alloc, context, name, condition, refusal, diagnosis),
+        Definition::Insert(insert) => {
+            diagnose_insert(alloc, context, insert, 0, refusal, diagnosis)
+        }
     }
 }
 
-/// What is wrong with the condition of an assertion, the first leaf of whose text is its name.
 fn diagnose_assertion(
+    alloc: Global,
+    context: Context,
+    name: &Text,
+    condition: &Condition,
+    refusal: &Refusal,
+    diagnosis: &mut Diagnosis,
+) -> Result<(), AllocError> {
+    match refusal {
+        Refusal::NameTaken { .. } => name_taken(context, "an assertion", name, diagnosis),
+        Refusal::AttributeClash { .. } => attributes_at_odds(context, diagnosis),
+        _ => diagnose_rule(alloc, context, condition, refusal, diagnosis),
+    }
+}
+
+/// Says what is wrong with the condition of an assertion, the first leaf of whose text is its name.
+fn diagnose_rule(
     alloc: Global,
     context: Context,
     condition: &Condition,
     refusal: &Refusal,
-) -> Result<Diagnosis, AllocError> {
+    diagnosis: &mut Diagnosis,
+) -> Result<(), AllocError> {
     let site = Site {
         condition,
         at: 1,
         scopes: &[],
     };
-    match (diagnose_condition(alloc, context, site, refusal)?, refusal) {
-        (Some(found), _) => Ok(found),
-        (None, Refusal::OutsideClass) => Diagnosis::new(
-            alloc,
-            context.which,
-            20,
-            String::from_str(alloc, "this is none of the forms of rules")?,
-            At::Definition(context.piece.whole()),
-        )
-        .with(String::from_str(alloc, FORMS)?),
-        (None, _) => diagnose_whole(alloc, context, refusal),
+    if diagnose_condition(alloc, context, site, refusal, diagnosis)? {
+        return Ok(());
+    }
+    match refusal {
+        Refusal::OutsideClass => {
+            diagnosis.place(20, At::Definition(context.piece.whole()));
+            diagnosis.say("this is none of the forms of rules")?;
+            diagnosis.advise(FORMS)
+        }
+        _ => diagnose_whole(context, refusal, diagnosis),
     }
 }
 
 /// A name that something has.
 fn name_taken(
-    alloc: Global,
     context: Context,
     whose: &str,
     name: &Text,
-) -> Result<Diagnosis, AllocError> {
-    Diagnosis::new(
-        alloc,
-        context.which,
-        4,
-        format!(in alloc; "{whose} has the name {name} already")?,
-        context.name_at(context.piece.token(Kind::Name, 0), name),
-    )
-    .with(String::from_str(
-        alloc,
-        "Take another name, or leave one of the two definitions out.",
-    )?)
+    diagnosis: &mut Diagnosis,
+) -> Result<(), AllocError> {
+    diagnosis.place(4, context.name_at(context.piece.token(Kind::Name, 0), name));
+    write!(diagnosis.what, "{whose} has the name {name} already")?;
+    diagnosis.advise("Take another name, or leave one of the two definitions out.")
 }
 
-/// What is wrong with a CREATE TABLE.
+/// Says what is wrong with a CREATE TABLE.
 fn diagnose_table(
-    alloc: Global,
     context: Context,
     name: &Text,
     columns: &[ColumnDefinition],
     refusal: &Refusal,
-) -> Result<Diagnosis, AllocError> {
+    diagnosis: &mut Diagnosis,
+) -> Result<(), AllocError> {
     match refusal {
         Refusal::NameTaken { .. } if context.catalog.get(name).is_some() => {
-            name_taken(alloc, context, "a table", name)
+            name_taken(context, "a table", name, diagnosis)
         }
-        Refusal::NameTaken { name } => column_twice(alloc, context, columns, name),
-        Refusal::OutsideClass => diagnose_key(alloc, context, name, columns),
-        _ => diagnose_whole(alloc, context, refusal),
+        Refusal::NameTaken { name } => column_twice(context, columns, name, diagnosis),
+        Refusal::OutsideClass => diagnose_key(context, name, columns, diagnosis),
+        _ => diagnose_whole(context, refusal, diagnosis),
     }
 }
 
 /// A column that has the name of one before it.
 fn column_twice(
-    alloc: Global,
     context: Context,
     columns: &[ColumnDefinition],
     name: &Text,
-) -> Result<Diagnosis, AllocError> {
+    diagnosis: &mut Diagnosis,
+) -> Result<(), AllocError> {
     let mut places = columns
         .iter()
         .enumerate()
@@ -163,42 +195,34 @@ fn column_twice(
     let place = places.next().map_or(0, |(place, _)| place);
     // (the first name is that of the table)
     let token = context.piece.token(Kind::Name, place.saturating_add(1));
-    Diagnosis::new(
-        alloc,
-        context.which,
-        4,
-        format!(in alloc; "the table has a column {name} already")?,
-        context.name_at(token, name),
-    )
-    .with(String::from_str(alloc, "Take another name for one of the two columns.")?)
+    diagnosis.place(4, context.name_at(token, name));
+    write!(diagnosis.what, "the table has a column {name} already")?;
+    diagnosis.advise("Take another name for one of the two columns.")
 }
 
 /// No key, or several.
 fn diagnose_key(
-    alloc: Global,
     context: Context,
     name: &Text,
     columns: &[ColumnDefinition],
-) -> Result<Diagnosis, AllocError> {
-    let (what, at, advice) = match columns.iter().find(|column| column.marks.key) {
-        Some(_) => (
-            format!(in alloc; "{name} has several keys")?,
-            context.at(context.piece.token(Kind::Primary, 1)),
-            String::from_str(alloc, ONE_KEY)?,
-        ),
-        None => {
-            let first = columns.first().map_or(name, |column| &column.name);
-            (
-                format!(in alloc; "{name} has no PRIMARY KEY")?,
-                context.name_at(context.piece.token(Kind::Name, 0), name),
-                format!(in alloc;
-                    "One column of each table is its key. Write PRIMARY KEY behind its type, behind \
-                     that of {first} for instance."
-                )?,
-            )
-        }
-    };
-    Diagnosis::new(alloc, context.which, 20, what, at).with(advice)
+    diagnosis: &mut Diagnosis,
+) -> Result<(), AllocError> {
+    if columns.iter().any(|column| column.marks.key) {
+        diagnosis.place(20, context.at(context.piece.token(Kind::Primary, 1)));
+        write!(diagnosis.what, "{name} has several keys")?;
+        return diagnosis.advise(ONE_KEY);
+    }
+    diagnosis.place(
+        20,
+        context.name_at(context.piece.token(Kind::Name, 0), name),
+    );
+    write!(diagnosis.what, "{name} has no PRIMARY KEY")?;
+    let first = columns.first().map_or(name, |column| &column.name);
+    writeln!(
+        diagnosis.advice,
+        "One column of each table is its key. Write PRIMARY KEY behind its type, behind that of \
+         {first} for instance."
+    )
 }
 
 /// What is said of a second key.
@@ -207,71 +231,76 @@ const ONE_KEY: &str =
      (SELECT C FROM T GROUP BY C HAVING COUNT(*) > 1).";
 
 /// INITIALLY DEFERRED and NOT DEFERRABLE.
-fn attributes_at_odds(alloc: Global, context: Context) -> Result<Diagnosis, AllocError> {
-    Diagnosis::new(
-        alloc,
-        context.which,
-        22,
-        String::from_str(
-            alloc,
-            "INITIALLY DEFERRED and NOT DEFERRABLE exclude each other",
-        )?,
-        context.at(context.piece.token(Kind::Initially, 0)),
-    )
-    .with(String::from_str(
-        alloc,
+fn attributes_at_odds(context: Context, diagnosis: &mut Diagnosis) -> Result<(), AllocError> {
+    diagnosis.place(22, context.at(context.piece.token(Kind::Initially, 0)));
+    diagnosis.say("INITIALLY DEFERRED and NOT DEFERRABLE exclude each other")?;
+    diagnosis.advise(
         "An assertion that begins deferred is deferrable: leave NOT DEFERRABLE out, or write INITIALLY IMMEDIATE.",
-    )?)
+    )
 }
 
-/// That an assertion is false on the rows that are loaded, at this root; by rows the row that is bad.
+/// A row at which an assertion is false, and the name of its table.
+#[derive(Clone, Copy)]
+pub struct BadRow<'a> {
+    pub table: &'a Text,
+    pub row: &'a Row,
+}
+
+/// Says that an assertion is false on the rows that are loaded, at this root; by rows with the row that is bad.
 pub fn diagnose_false(
     alloc: Global,
-    bytes: &[u8],
-    definitions: &[Definition],
+    text: DefinitionsText,
     name: &Text,
     root: &Root,
-    row: Option<String>,
-) -> Result<Diagnosis, AllocError> {
-    let mut at = At::Nowhere;
-    for (place, definition) in definitions.iter().enumerate() {
+    row: Option<BadRow>,
+    diagnosis: &mut Diagnosis,
+) -> Result<(), AllocError> {
+    diagnosis.place(21, assertion_at(alloc, text, name)?);
+    push_false(name, root, &mut diagnosis.what)?;
+    if let Some(row) = row {
+        push_row(row, &mut diagnosis.advice)?;
+    }
+    diagnosis.advise(
+        "Change the rows, or the rule. Every assertion holds when the first session begins.",
+    )
+}
+
+/// Where the name of an assertion is defined.
+fn assertion_at(alloc: Global, text: DefinitionsText, name: &Text) -> Result<At, AllocError> {
+    for (place, definition) in text.definitions.iter().enumerate() {
         if let Definition::Assertion { name: other, .. } = definition {
             if *other == *name {
-                let piece = Piece::at(alloc, bytes, place)?;
-                at = match piece.token(Kind::Name, 0) {
-                    Some(span) => At::Bytes(span),
-                    None => At::Definition(piece.whole()),
-                };
+                let piece = Piece::at(alloc, text.bytes, place)?;
+                return Ok(first_name(&piece));
             }
         }
     }
-    let where_false = match root {
-        Root::All => String::from_str(alloc, "as a whole")?,
-        Root::Of(value) => format!(in alloc; "at {value}")?,
-    };
-    Diagnosis::new(
-        alloc,
-        Which::Defs,
-        21,
-        format!(in alloc; "{name} is false on the rows that DEFS puts in, {where_false}")?,
-        at,
-    )
-    .with_some(row)?
-    .with(String::from_str(
-        alloc,
-        "Change the rows, or the rule. Every assertion holds when the first session begins.",
-    )?)
+    Ok(At::Nowhere)
 }
 
-/// A row as a person reads it: its values with commas between them, in parentheses.
-pub fn row_text(alloc: Global, table: &Text, row: &Row) -> Result<String, AllocError> {
-    let mut told = format!(in alloc; "The row of {table} there: (")?;
-    for (place, value) in row.values().iter().enumerate() {
-        if place > 0 {
-            told.push_str(", ")?;
-        }
-        write!(told, "{value}")?;
+fn first_name(piece: &Piece) -> At {
+    match piece.token(Kind::Name, 0) {
+        Some(span) => At::Bytes(span),
+        None => At::Definition(piece.whole()),
     }
-    told.push_str(").")?;
-    Ok(told)
+}
+
+fn push_false(name: &Text, root: &Root, what: &mut String) -> Result<(), AllocError> {
+    write!(what, "{name} is false on the rows that DEFS puts in, ")?;
+    match root {
+        Root::All => what.push_str("as a whole"),
+        Root::Of(value) => write!(what, "at {value}"),
+    }
+}
+
+/// A line of a row as a person reads it: its values with commas between them, in parentheses.
+fn push_row(bad: BadRow, advice: &mut String) -> Result<(), AllocError> {
+    write!(advice, "The row of {} there: (", bad.table)?;
+    for (place, value) in bad.row.values().iter().enumerate() {
+        if place > 0 {
+            advice.push_str(", ")?;
+        }
+        write!(advice, "{value}")?;
+    }
+    advice.push_str(").\n")
 }

@@ -1,23 +1,16 @@
 //! What is wrong with an INSERT.
 
-use crate::conditions::{Context, diagnose_name, diagnose_whole, type_name};
-use crate::names::{unknown_column, unknown_table};
+use crate::answers::refusal_in;
+use crate::conditions::{diagnose_whole, type_name};
+use crate::contexts::Context;
+use crate::names::{diagnose_name, unknown_column, unknown_table};
 use assertcheck::{DataType, check_insert};
-use faults::{At, Diagnosis, enumeration};
+use faults::{At, Diagnosis, push_names};
 use form_check::Scope;
 use std::alloc::{AllocError, Global};
 use syntax::Insert;
 use table::{Catalog, Column, Schema};
 use value::{ColType, Excess, Refusal, Text, Value};
-
-/// The refusal of an answer, where it is no want of memory.
-pub fn refusal_in<T: Drop>(answer: Result<T, Refusal>) -> Result<Option<Refusal>, AllocError> {
-    match answer {
-        Ok(_) => Ok(None),
-        Err(Refusal::NoMemory) => Err(AllocError),
-        Err(refusal) => Ok(Some(refusal)),
-    }
-}
 
 /// The refusal that an INSERT gets whatever the rows are.
 pub fn insert_refusal(
@@ -34,18 +27,19 @@ pub fn insert_refusal(
     }
 }
 
-/// What is wrong with an INSERT that was refused so. `names` is how many names stand before that of its table.
+/// Says what is wrong with an INSERT that was refused so. `names` is how many names stand before that of its table.
 pub fn diagnose_insert(
     alloc: Global,
     context: Context,
     insert: &Insert,
     names: usize,
     refusal: &Refusal,
-) -> Result<Diagnosis, AllocError> {
+    diagnosis: &mut Diagnosis,
+) -> Result<(), AllocError> {
     let Some(schema) = context.catalog.get(&insert.table) else {
         // (the place among the leaves is that among the names: no other leaf stands before it)
         let unknown = unknown_table(alloc, context.catalog, &insert.table, names)?;
-        return diagnose_name(alloc, context, &insert.table, &unknown);
+        return diagnose_name(alloc, context, &insert.table, &unknown, &[], diagnosis);
     };
     let known = KnownInsert {
         context,
@@ -53,15 +47,7 @@ pub fn diagnose_insert(
         schema,
         names,
     };
-    match refusal {
-        Refusal::UnknownName { name } => known.unknown(alloc, name),
-        Refusal::NameTaken { name } => known.listed_twice(alloc, name),
-        Refusal::TypeMismatch => known.mismatch(alloc),
-        Refusal::NullNotAllowed { column } => known.null(alloc, column),
-        Refusal::OutOfRange { column, excess } => known.excess(alloc, column, *excess),
-        Refusal::DuplicateKey { key, .. } => known.duplicate(alloc, key),
-        _ => diagnose_whole(alloc, context, refusal),
-    }
+    known.diagnose(alloc, refusal, diagnosis)
 }
 
 /// An INSERT into a table that there is.
@@ -74,6 +60,23 @@ struct KnownInsert<'a> {
 }
 
 impl<'a> KnownInsert<'a> {
+    fn diagnose(
+        &self,
+        alloc: Global,
+        refusal: &Refusal,
+        diagnosis: &mut Diagnosis,
+    ) -> Result<(), AllocError> {
+        match refusal {
+            Refusal::UnknownName { name } => self.unknown(alloc, name, diagnosis),
+            Refusal::NameTaken { name } => self.listed_twice(name, diagnosis),
+            Refusal::TypeMismatch => self.mismatch(alloc, diagnosis),
+            Refusal::NullNotAllowed { column } => self.null(column, diagnosis),
+            Refusal::OutOfRange { column, excess } => self.excess(column, *excess, diagnosis),
+            Refusal::DuplicateKey { key, .. } => self.duplicate(key, diagnosis),
+            _ => diagnose_whole(self.context, refusal, diagnosis),
+        }
+    }
+
     /// The names of the columns that are listed.
     fn column_list(&self) -> &'a [Text] {
         match &self.insert.columns {
@@ -88,54 +91,69 @@ impl<'a> KnownInsert<'a> {
     }
 
     /// A listed column that there is not.
-    fn unknown(&self, alloc: Global, name: &Text) -> Result<Diagnosis, AllocError> {
-        let place = self.place_of(name).unwrap_or(0);
-        let scope = Scope {
+    fn unknown(
+        &self,
+        alloc: Global,
+        name: &Text,
+        diagnosis: &mut Diagnosis,
+    ) -> Result<(), AllocError> {
+        let leaf = self.leaf_of(self.place_of(name).unwrap_or(0));
+        let scopes = [Scope {
             exposed_name: &self.insert.table,
             schema: self.schema,
-        };
-        let unknown = unknown_column(alloc, &[scope], name, self.leaf_of(place))?;
-        diagnose_name(alloc, self.context, name, &unknown)
+        }];
+        let unknown = unknown_column(alloc, &scopes, name, leaf)?;
+        diagnose_name(alloc, self.context, name, &unknown, &scopes, diagnosis)
     }
 
     /// A column that is listed twice.
-    fn listed_twice(&self, alloc: Global, name: &Text) -> Result<Diagnosis, AllocError> {
+    fn listed_twice(&self, name: &Text, diagnosis: &mut Diagnosis) -> Result<(), AllocError> {
+        let leaf = self.context.piece.leaf(self.leaf_of(self.second_of(name)));
+        diagnosis.place(4, self.context.name_at(leaf, name));
+        write!(diagnosis.what, "the column {name} is listed twice")?;
+        diagnosis.advise("List each column once, with one value for each.")
+    }
+
+    /// The place at which a column is listed for the second time.
+    fn second_of(&self, name: &Text) -> usize {
         let mut places = self
             .column_list()
             .iter()
             .enumerate()
             .filter(|(_, listed)| **listed == *name)
             .skip(1);
-        let place = places.next().map_or(0, |(place, _)| place);
-        let leaf = self.context.piece.leaf(self.leaf_of(place));
-        Diagnosis::new(
-            alloc,
-            self.context.which,
-            4,
-            format!(in alloc; "the column {name} is listed twice")?,
-            self.context.name_at(leaf, name),
-        )
-        .with(String::from_str(alloc, "List each column once, with one value for each.")?)
+        places.next().map_or(0, |(place, _)| place)
     }
 
     /// Too many values or too few, or a value of another type than its column.
-    fn mismatch(&self, alloc: Global) -> Result<Diagnosis, AllocError> {
-        let values = self.insert.values.as_slice();
+    fn mismatch(&self, alloc: Global, diagnosis: &mut Diagnosis) -> Result<(), AllocError> {
         let wanted = match &self.insert.columns {
             Some(columns) => columns.len(),
             None => self.schema.columns().len(),
         };
-        if values.len() != wanted {
-            return self.count_fault(alloc, wanted);
+        if self.insert.values.len() != wanted {
+            return self.count_fault(alloc, wanted, diagnosis);
         }
-        for (place, value) in values.iter().enumerate() {
+        match self.first_mistyped() {
+            Some(value) => self.type_fault(value, diagnosis),
+            None => diagnose_whole(self.context, &Refusal::TypeMismatch, diagnosis),
+        }
+    }
+
+    /// The first value of another type than its column.
+    fn first_mistyped(&self) -> Option<Mistyped<'a>> {
+        for (place, value) in self.insert.values.as_slice().iter().enumerate() {
             if let Some(column) = self.column_at(place) {
                 if !column.is_typed(value) {
-                    return self.type_fault(alloc, column, value, place);
+                    return Some(Mistyped {
+                        column,
+                        value,
+                        place,
+                    });
                 }
             }
         }
-        diagnose_whole(alloc, self.context, &Refusal::TypeMismatch)
+        None
     }
 
     /// The column that the value at a place is for.
@@ -149,58 +167,41 @@ impl<'a> KnownInsert<'a> {
         }
     }
 
-    fn count_fault(&self, alloc: Global, wanted: usize) -> Result<Diagnosis, AllocError> {
-        let given = self.insert.values.len();
-        let place = wanted.min(given.saturating_sub(1));
-        let advice = match &self.insert.columns {
-            Some(_) => String::from_str(alloc, "Give one value for each column that is listed.")?,
-            None => {
-                let mut names = Vec::new(alloc);
-                for column in self.schema.columns() {
-                    let name = &column.name;
-                    names.push(format!(in alloc; "{name}")?)?;
-                }
-                let names = enumeration(alloc, &names, " and ")?;
-                format!(in alloc;
-                    "The table has {names}: give a value for each, or list those that get one. The others \
-                     are NULL."
-                )?
-            }
-        };
-        Diagnosis::new(
-            alloc,
-            self.context.which,
-            5,
-            count_text(alloc, given, wanted)?,
-            self.context.at(self.context.piece.value(place)),
-        )
-        .with(advice)
-    }
-
-    fn type_fault(
+    fn count_fault(
         &self,
         alloc: Global,
-        column: &Column,
-        value: &Value,
-        place: usize,
-    ) -> Result<Diagnosis, AllocError> {
+        wanted: usize,
+        diagnosis: &mut Diagnosis,
+    ) -> Result<(), AllocError> {
+        let given = self.insert.values.len();
+        let place = wanted.min(given.saturating_sub(1));
+        diagnosis.place(5, self.context.at(self.context.piece.value(place)));
+        push_counts(given, wanted, &mut diagnosis.what)?;
+        match &self.insert.columns {
+            Some(_) => diagnosis.advise("Give one value for each column that is listed."),
+            None => push_columns(alloc, self.schema, &mut diagnosis.advice),
+        }
+    }
+
+    fn type_fault(&self, mistyped: Mistyped, diagnosis: &mut Diagnosis) -> Result<(), AllocError> {
+        let Mistyped {
+            column,
+            value,
+            place,
+        } = mistyped;
         let name = &column.name;
         let declared = type_name(DataType::from(column.kind));
         let given = match value {
             Value::Text(_) => "VARCHAR",
             Value::Null | Value::Int(_) => "INTEGER",
         };
-        Diagnosis::new(
-            alloc,
-            self.context.which,
-            5,
-            format!(in alloc; "a value of type {given} for a column of type {declared}")?,
-            self.context.at(self.context.piece.value(place)),
-        )
-        .with(format!(in alloc;
+        diagnosis.place(5, self.context.at(self.context.piece.value(place)));
+        push_value_of_type(given, declared, &mut diagnosis.what)?;
+        writeln!(
+            diagnosis.advice,
             "{name} is of type {declared}, and {value} of type {given}. A text stands in quotes, a \
              number without."
-        )?)
+        )
     }
 
     /// The place of the value for a column.
@@ -220,78 +221,104 @@ impl<'a> KnownInsert<'a> {
         self.context.at(span)
     }
 
-    fn null(&self, alloc: Global, column: &Text) -> Result<Diagnosis, AllocError> {
+    fn null(&self, column: &Text, diagnosis: &mut Diagnosis) -> Result<(), AllocError> {
         let why = if self.schema.column(column) == Some(self.schema.key()) {
             "is the key"
         } else {
             "is NOT NULL"
         };
-        let advice = match self.place_of(column) {
-            Some(_) => format!(in alloc; "{column} {why}: give it a value.")?,
-            None => format!(in alloc;
+        diagnosis.place(6, self.value_at(column));
+        write!(diagnosis.what, "{column} takes no NULL")?;
+        match self.place_of(column) {
+            Some(_) => writeln!(diagnosis.advice, "{column} {why}: give it a value."),
+            None => writeln!(
+                diagnosis.advice,
                 "{column} {why}, and a column that is not listed is NULL: list it, and give it a value."
-            )?,
-        };
-        Diagnosis::new(
-            alloc,
-            self.context.which,
-            6,
-            format!(in alloc; "{column} takes no NULL")?,
-            self.value_at(column),
-        )
-        .with(advice)
+            ),
+        }
     }
 
     fn excess(
         &self,
-        alloc: Global,
         column: &Text,
         excess: Excess,
-    ) -> Result<Diagnosis, AllocError> {
-        let most = match self.schema.column(column) {
-            Some(place) => self.schema.columns().get(place).map(|column| column.kind),
-            None => None,
-        };
-        let (what, said) = match (excess, most) {
-            (Excess::Text, Some(ColType::Varchar(most))) => (
-                format!(in alloc; "this text is too long for {column}")?,
-                format!(in alloc;
+        diagnosis: &mut Diagnosis,
+    ) -> Result<(), AllocError> {
+        diagnosis.place(9, self.value_at(column));
+        match (excess, self.kind_of(column)) {
+            (Excess::Text, Some(ColType::Varchar(most))) => {
+                write!(diagnosis.what, "this text is too long for {column}")?;
+                writeln!(
+                    diagnosis.advice,
                     "{column} is VARCHAR({most}): write a shorter text, or a greater length (up to 255) \
                      in its CREATE TABLE."
-                )?,
-            ),
-            _ => (
-                format!(in alloc; "this number is out of the range of {column}")?,
-                String::from_str(alloc, "INTEGER holds the numbers from -10^15 to 10^15.")?,
-            ),
-        };
-        Diagnosis::new(alloc, self.context.which, 9, what, self.value_at(column)).with(said)
+                )
+            }
+            _ => {
+                write!(
+                    diagnosis.what,
+                    "this number is out of the range of {column}"
+                )?;
+                diagnosis.advise("INTEGER holds the numbers from -10^15 to 10^15.")
+            }
+        }
     }
 
-    fn duplicate(&self, alloc: Global, key: &Value) -> Result<Diagnosis, AllocError> {
+    /// The type that a column was declared with.
+    fn kind_of(&self, name: &Text) -> Option<ColType> {
+        let column = self.schema.columns().get(self.schema.column(name)?)?;
+        Some(column.kind)
+    }
+
+    fn duplicate(&self, key: &Value, diagnosis: &mut Diagnosis) -> Result<(), AllocError> {
         let table = &self.insert.table;
-        let column = self.schema.columns().get(self.schema.key());
-        let place = match column {
+        let place = match self.schema.columns().get(self.schema.key()) {
             Some(column) => self.value_at(&column.name),
             None => self.context.at(None),
         };
-        Diagnosis::new(
-            alloc,
-            self.context.which,
-            7,
-            format!(in alloc; "{table} has a row under the key {key} already")?,
-            place,
-        )
-        .with(String::from_str(
-            alloc,
-            "Each row has a key of its own: give this one another, or leave it out.",
-        )?)
+        diagnosis.place(7, place);
+        write!(
+            diagnosis.what,
+            "{table} has a row under the key {key} already"
+        )?;
+        diagnosis.advise("Each row has a key of its own: give this one another, or leave it out.")
     }
 }
 
+/// A value of another type than its column, and its place among the values.
+#[derive(Clone, Copy)]
+struct Mistyped<'a> {
+    column: &'a Column,
+    value: &'a Value,
+    place: usize,
+}
+
+/// That a value is of another type than its column.
+pub fn push_value_of_type(
+    given: &str,
+    declared: &str,
+    what: &mut String,
+) -> Result<(), AllocError> {
+    write!(
+        what,
+        "a value of type {given} for a column of type {declared}"
+    )
+}
+
 /// How many values were given, and how many were wanted.
-fn count_text(alloc: Global, given: usize, wanted: usize) -> Result<String, AllocError> {
+fn push_counts(given: usize, wanted: usize, what: &mut String) -> Result<(), AllocError> {
     let values = if given == 1 { "value" } else { "values" };
     let columns = if wanted == 1 { "column" } else { "columns" };
-    format!(in alloc; "{given} {values} for {wanted} {columns}")
+    write!(what, "{given} {values} for {wanted} {columns}")
+}
+
+/// A line of the columns that a table has.
+fn push_columns(alloc: Global, schema: &Schema, advice: &mut String) -> Result<(), AllocError> {
+    let mut names = Vec::new(alloc);
+    for column in schema.columns() {
+        names.push(&column.name)?;
+    }
+    advice.push_str("The table has ")?;
+    push_names(&names, advice)?;
+    advice.push_str(": give a value for each, or list those that get one. The others are NULL.\n")
 }

@@ -15,7 +15,9 @@
 //! an error: what it says is held against a table of faulty texts (`tools/faulty_texts.py`).
 #![tactic(auto)]
 
+mod answers;
 mod conditions;
+mod contexts;
 mod definitions_at_fault;
 mod inserts;
 mod leaves;
@@ -28,5 +30,5 @@ mod statements;
 mod types;
 mod widths;
 
-pub use definitions_at_fault::{diagnose_definitions, diagnose_false, row_text};
+pub use definitions_at_fault::{BadRow, DefinitionsText, diagnose_definitions, diagnose_false};
 pub use statements::diagnose_statement;

@@ -4,6 +4,7 @@
 //! may have a great many rows, and those mostly stand last: the rows behind the last table and assertion are gone
 //! through once, and only what stands before is taken in time and again.
 
+use crate::answers::{answer_of, refusal_in};
 use crate::inserts::insert_refusal;
 use assertcheck::check_insert;
 use definitions::Definitions;
@@ -23,17 +24,25 @@ pub fn first_refused(
     let front = &definitions[..front_of(definitions).min(definitions.len())];
     match view_of(alloc, front)? {
         Some(view) => {
-            let place = first_row(alloc, view.catalog(), definitions, refusal)?;
-            Ok((place, view))
+            let place = first_row(alloc, view.catalog(), definitions, refusal);
+            both(place, view)
         }
-        None => {
-            let place = by_halving(alloc, front)?;
-            match view_of(alloc, &front[..place.min(front.len())])? {
-                Some(view) => Ok((place, view)),
-                None => Err(AllocError),
-            }
-        }
+        None => first_in_front(alloc, front),
     }
+}
+
+/// The same where it is one of these, and not a row behind them.
+fn first_in_front(alloc: Global, front: &[Definition]) -> Result<(usize, View), AllocError> {
+    let place = by_halving(alloc, front)?;
+    match view_of(alloc, &front[..place.min(front.len())])? {
+        Some(view) => Ok((place, view)),
+        None => Err(AllocError),
+    }
+}
+
+/// A place, if it was found, and what belongs to it.
+fn both<T: Drop>(place: Result<usize, AllocError>, before: T) -> Result<(usize, T), AllocError> {
+    Ok((place?, before))
 }
 
 /// How many definitions stand before the rows that stand last.
@@ -49,12 +58,10 @@ fn front_of(definitions: &[Definition]) -> usize {
 
 /// What definitions define, if they are taken in.
 fn view_of(alloc: Global, definitions: &[Definition]) -> Result<Option<View>, AllocError> {
-    let taken = match Definitions::take(alloc, definitions) {
-        Ok(taken) => taken,
-        Err(Refusal::NoMemory) => return Err(AllocError),
-        Err(_) => return Ok(None),
-    };
-    Ok(Some(taken.load(alloc)?))
+    match answer_of(Definitions::take(alloc, definitions))? {
+        Some(taken) => Ok(Some(taken.load(alloc)?)),
+        None => Ok(None),
+    }
 }
 
 /// The place of the first definition that is refused, among some of which one is. Those before it are taken in, and
@@ -79,11 +86,8 @@ fn by_halving(alloc: Global, definitions: &[Definition]) -> Result<usize, AllocE
 
 /// Whether the first so many definitions are taken in.
 fn are_taken(alloc: Global, definitions: &[Definition], count: usize) -> Result<bool, AllocError> {
-    match Definitions::take(alloc, &definitions[..count.min(definitions.len())]) {
-        Ok(_) => Ok(true),
-        Err(Refusal::NoMemory) => Err(AllocError),
-        Err(_) => Ok(false),
-    }
+    let first = &definitions[..count.min(definitions.len())];
+    Ok(refusal_in(Definitions::take(alloc, first))?.is_none())
 }
 
 /// The place of the first INSERT that is refused so, over these tables.
@@ -93,20 +97,44 @@ fn first_row(
     definitions: &[Definition],
     refusal: &Refusal,
 ) -> Result<usize, AllocError> {
+    match refusal {
+        Refusal::DuplicateKey { table, key } => second_row(alloc, catalog, definitions, table, key),
+        _ => first_bad_row(alloc, catalog, definitions),
+    }
+}
+
+/// The place of the first INSERT that is refused whatever the rows are.
+fn first_bad_row(
+    alloc: Global,
+    catalog: &Catalog,
+    definitions: &[Definition],
+) -> Result<usize, AllocError> {
+    for (place, definition) in definitions.iter().enumerate() {
+        if let Definition::Insert(insert) = definition {
+            if insert_refusal(alloc, catalog, insert)?.is_some() {
+                return Ok(place);
+            }
+        }
+    }
+    Ok(definitions.len())
+}
+
+/// The place of the second INSERT that puts a row under this key of this table.
+fn second_row(
+    alloc: Global,
+    catalog: &Catalog,
+    definitions: &[Definition],
+    table: &Text,
+    key: &Value,
+) -> Result<usize, AllocError> {
     let mut is_there = false;
     for (place, definition) in definitions.iter().enumerate() {
         if let Definition::Insert(insert) = definition {
-            let is_refused = match refusal {
-                Refusal::DuplicateKey { table, key } => {
-                    let is_put = puts(alloc, catalog, insert, table, key)?;
-                    let is_second = is_put && is_there;
-                    is_there = is_there || is_put;
-                    is_second
+            if puts(alloc, catalog, insert, table, key)? {
+                if is_there {
+                    return Ok(place);
                 }
-                _ => insert_refusal(alloc, catalog, insert)?.is_some(),
-            };
-            if is_refused {
-                return Ok(place);
+                is_there = true;
             }
         }
     }
@@ -124,9 +152,11 @@ fn puts(
     if insert.table != *table {
         return Ok(false);
     }
-    match (check_insert(alloc, catalog, insert), catalog.get(table)) {
-        (Ok(new), Some(schema)) => Ok(new.row.values().get(schema.key()) == Some(key)),
-        (Err(Refusal::NoMemory), _) => Err(AllocError),
+    match (
+        answer_of(check_insert(alloc, catalog, insert))?,
+        catalog.get(table),
+    ) {
+        (Some(new), Some(schema)) => Ok(new.row.values().get(schema.key()) == Some(key)),
         _ => Ok(false),
     }
 }

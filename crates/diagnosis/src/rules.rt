@@ -2,7 +2,7 @@
 
 use crate::shapes::Outside;
 use form_check::Scope;
-use std::alloc::{AllocError, Global};
+use std::alloc::AllocError;
 
 /// Which rule of the class a part breaks.
 #[derive(Clone, Copy)]
@@ -54,11 +54,11 @@ pub fn wrong(rule: Rule) -> &'static str {
     }
 }
 
-/// How to write it in the class.
-pub fn advice(alloc: Global, outside: &Outside) -> Result<String, AllocError> {
+/// A line of how to write it in the class.
+pub fn push_form(outside: &Outside, advice: &mut String) -> Result<(), AllocError> {
     match (outside.rule, outside.root) {
-        (Rule::NoLink, Some(root)) => link_advice(alloc, root),
-        (rule, _) => String::from_str(alloc, form_of(rule)),
+        (Rule::NoLink, Some(root)) => push_link(root, advice),
+        (rule, _) => writeln!(advice, "{}", form_of(rule)),
     }
 }
 
@@ -126,12 +126,13 @@ pub const FORMS: &str = "A rule is NOT EXISTS (SELECT * FROM T R WHERE ..), NOT 
      FROM T GROUP BY K HAVING ..), or a comparison of (SELECT function FROM T WHERE ..).";
 
 /// What a link to a row of this table is.
-fn link_advice(alloc: Global, root: Scope) -> Result<String, AllocError> {
+fn push_link(root: Scope, advice: &mut String) -> Result<(), AllocError> {
     let Some(key) = root.schema.columns().get(root.schema.key()) else {
-        return String::from_str(alloc, LINK);
+        return writeln!(advice, "{LINK}");
     };
     let (row, key) = (root.exposed_name, &key.name);
-    format!(in alloc;
+    writeln!(
+        advice,
         "Its WHERE has one part, joined by AND, that sets a column of its own table equal to a \
          column of the row around it, as {row}.{key}."
     )

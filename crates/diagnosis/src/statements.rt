@@ -1,45 +1,47 @@
 //! Statements of a script that are refused whatever the rows are: for their names, shapes, types and widths, and for
 //! constants that no row may hold.
 
+use crate::answers::refusal_in;
 use crate::conditions::{
-    Context, Site, diagnose_condition, diagnose_name, diagnose_shape, diagnose_types,
-    diagnose_whole, diagnose_width, type_name,
+    Site, diagnose_condition, diagnose_shape, diagnose_types, diagnose_whole, diagnose_width,
+    type_name,
 };
-use crate::inserts::{diagnose_insert, insert_refusal, refusal_in};
+use crate::contexts::Context;
+use crate::inserts::{diagnose_insert, insert_refusal, push_value_of_type};
 use crate::leaves::{Range, of_expression};
-use crate::names::{first_unknown, unknown_column, unknown_table};
+use crate::names::{diagnose_name, diagnose_unknown, unknown_column, unknown_table};
 use crate::parts::parts_of_expression;
 use crate::shapes::in_parts;
 use crate::types::of_type;
-use crate::widths::first_wide;
 use assertcheck::{DataType, check_delete, check_select, check_update};
 use delta::View;
-use faults::{At, Diagnosis, Nearest, Piece, Span, Which, enumeration};
+use faults::{At, Diagnosis, Nearest, Piece, Span, push_names};
 use form_check::Scope;
 use sqlite_items::Boxed;
 use std::alloc::{AllocError, Global};
-use syntax::{Assignment, Condition, Statement, UpdateSource, Which as Listed};
-use table::Catalog;
+use std::slice;
+use syntax::{Assignment, Condition, Expression, Statement, UpdateSource, Which as Listed};
+use table::{Catalog, Column};
 use value::{Refusal, Text};
 
-/// Why a statement, at a place among the lines of a script, is refused in every transaction, if it is.
+/// Says why a statement, at a place among the lines of a script, is refused in every transaction, if it is.
 pub fn diagnose_statement(
     alloc: Global,
     bytes: &[u8],
     place: usize,
     statement: &Statement,
     view: &View,
-) -> Result<Option<Diagnosis>, AllocError> {
+    diagnosis: &mut Diagnosis,
+) -> Result<bool, AllocError> {
     let Some(refusal) = refusal_of(alloc, view, statement)? else {
-        return Ok(None);
+        return Ok(false);
     };
-    let piece = Piece::at(alloc, bytes, place)?;
-    let context = Context {
-        which: Which::Script,
-        piece: &piece,
-        catalog: view.catalog(),
+    let refused = RefusedStatement {
+        statement,
+        view,
+        refusal: &refusal,
     };
-    Ok(Some(diagnose(alloc, context, view, statement, &refusal)?))
+    diagnose_line(alloc, bytes, place, refused, diagnosis)
 }
 
 /// The refusal that a statement gets whatever the rows are.
@@ -97,72 +99,142 @@ fn refusal_to_set(view: &View, assertions: &Listed) -> Result<Option<Refusal>, A
     Ok(None)
 }
 
-/// What is wrong with a statement that is refused so.
+/// A statement that is refused, and the tables and assertions that there are.
+#[derive(Clone, Copy)]
+struct RefusedStatement<'a> {
+    statement: &'a Statement,
+    view: &'a View,
+    refusal: &'a Refusal,
+}
+
+/// Says what is wrong with the statement of a line. That is always found.
+fn diagnose_line(
+    alloc: Global,
+    bytes: &[u8],
+    place: usize,
+    refused: RefusedStatement,
+    diagnosis: &mut Diagnosis,
+) -> Result<bool, AllocError> {
+    let piece = Piece::at(alloc, bytes, place)?;
+    let context = Context {
+        piece: &piece,
+        catalog: refused.view.catalog(),
+    };
+    diagnose(alloc, context, refused, diagnosis)
+}
+
 fn diagnose(
     alloc: Global,
     context: Context,
-    view: &View,
-    statement: &Statement,
-    refusal: &Refusal,
-) -> Result<Diagnosis, AllocError> {
-    let found = match statement {
-        Statement::Insert(insert) => { Some(diagnose_insert(alloc, context, insert, 1, refusal)?) }
+    refused: RefusedStatement,
+    diagnosis: &mut Diagnosis,
+) -> Result<bool, AllocError> {
+    if !diagnose_parts(alloc, context, refused, diagnosis)? {
+        diagnose_whole(context, refused.refusal, diagnosis)?;
+    }
+    Ok(true)
+}
+
+/// Says what is wrong with a part of a statement, if that is found.
+fn diagnose_parts(
+    alloc: Global,
+    context: Context,
+    refused: RefusedStatement,
+    diagnosis: &mut Diagnosis,
+) -> Result<bool, AllocError> {
+    let refusal = refused.refusal;
+    match refused.statement {
+        Statement::Insert(insert) => {
+            diagnose_insert(alloc, context, insert, 1, refusal, diagnosis)?;
+            Ok(true)
+        }
         Statement::Update { table, sets, keeps } => {
-            diagnose_update(alloc, context, table, sets.as_slice(), keeps, refusal)?
+            let rows = Rows::new(table, 1, keeps, behind(sets.as_slice()));
+            diagnose_update(alloc, context, sets.as_slice(), rows, refusal, diagnosis)
         }
         Statement::Delete { table, keeps } => {
-            diagnose_rows(alloc, context, table, 1, keeps, 2, refusal)?
+            let rows = Rows::new(table, 1, keeps, 2);
+            diagnose_rows(alloc, context, rows, refusal, diagnosis)
         }
         Statement::Select {
             columns,
             table,
             keeps,
-        } => diagnose_select(alloc, context, columns, table, keeps, refusal)?,
-        Statement::SetConstraints { .. } | Statement::Verdict(_) => {
-            Some(diagnose_asserted(alloc, context, view, refusal)?)
+        } => {
+            let table_at = listed_count(columns).saturating_add(2);
+            let rows = Rows::new(table, table_at, keeps, table_at.saturating_add(1));
+            diagnose_select(alloc, context, columns, rows, refusal, diagnosis)
         }
-    };
-    match found {
-        Some(found) => Ok(found),
-        None => diagnose_whole(alloc, context, refusal),
+        Statement::SetConstraints { .. } | Statement::Verdict(_) => {
+            diagnose_asserted(alloc, context, refused.view, refusal, diagnosis)
+        }
     }
 }
 
-/// At most so many names of assertions are listed.
-const MOST_NAMES: usize = 8;
-
-/// The scope of a statement's table.
-fn scope_of<'a>(catalog: &'a Catalog, table: &'a Text) -> Option<Scope<'a>> {
-    Some(Scope {
-        exposed_name: table,
-        schema: catalog.get(table)?,
-    })
+/// The table of a statement and its WHERE, and where their leaves begin.
+#[derive(Clone, Copy)]
+struct Rows<'a> {
+    table: &'a Text,
+    table_at: usize,
+    keeps: &'a Option<Boxed<Condition>>,
+    keeps_at: usize,
 }
 
-/// What is wrong with a table and its WHERE, whose leaves begin at these places.
+impl<'a> Rows<'a> {
+    fn new(
+        table: &'a Text,
+        table_at: usize,
+        keeps: &'a Option<Boxed<Condition>>,
+        keeps_at: usize,
+    ) -> Rows<'a> {
+        Rows {
+            table,
+            table_at,
+            keeps,
+            keeps_at,
+        }
+    }
+
+    /// The scope of the table, if there is one.
+    fn scope(&self, catalog: &'a Catalog) -> Option<Scope<'a>> {
+        Some(Scope {
+            exposed_name: self.table,
+            schema: catalog.get(self.table)?,
+        })
+    }
+}
+
+/// Says what is wrong with a table or its WHERE, if that is found.
 fn diagnose_rows(
     alloc: Global,
     context: Context,
-    table: &Text,
-    table_at: usize,
-    keeps: &Option<Boxed<Condition>>,
-    keeps_at: usize,
+    rows: Rows,
     refusal: &Refusal,
-) -> Result<Option<Diagnosis>, AllocError> {
-    let Some(scope) = scope_of(context.catalog, table) else {
-        let unknown = unknown_table(alloc, context.catalog, table, table_at)?;
-        return Ok(Some(diagnose_name(alloc, context, table, &unknown)?));
+    diagnosis: &mut Diagnosis,
+) -> Result<bool, AllocError> {
+    let Some(scope) = rows.scope(context.catalog) else {
+        let unknown = unknown_table(alloc, context.catalog, rows.table, rows.table_at)?;
+        diagnose_name(alloc, context, rows.table, &unknown, &[], diagnosis)?;
+        return Ok(true);
     };
-    match keeps {
+    match rows.keeps {
         Some(keeps) => {
             let site = Site {
                 condition: keeps.get(),
-                at: keeps_at,
-                scopes: &[scope],
+                at: rows.keeps_at,
+                scopes: slice::from_ref(&scope),
             };
-            diagnose_condition(alloc, context, site, refusal)
+            diagnose_condition(alloc, context, site, refusal, diagnosis)
         }
-        None => Ok(None),
+        None => Ok(false),
+    }
+}
+
+/// How many columns a SELECT lists.
+fn listed_count(columns: &Listed) -> usize {
+    match columns {
+        Listed::All => 0,
+        Listed::Names(names) => names.len(),
     }
 }
 
@@ -170,56 +242,54 @@ fn diagnose_select(
     alloc: Global,
     context: Context,
     columns: &Listed,
-    table: &Text,
-    keeps: &Option<Boxed<Condition>>,
+    rows: Rows,
     refusal: &Refusal,
-) -> Result<Option<Diagnosis>, AllocError> {
-    let listed = match columns {
-        Listed::All => 0,
-        Listed::Names(names) => names.len(),
-    };
-    let table_at = listed.saturating_add(2);
+    diagnosis: &mut Diagnosis,
+) -> Result<bool, AllocError> {
     if let (Some(scope), Listed::Names(names), Refusal::UnknownName { name }) = (
-        scope_of(context.catalog, table),
+        rows.scope(context.catalog),
         columns,
         refusal,
     ) {
-        for (place, listed) in names.as_slice().iter().enumerate() {
-            if scope.schema.column(listed).is_none() {
-                let unknown = unknown_column(alloc, &[scope], name, place.saturating_add(2))?;
-                return Ok(Some(diagnose_name(alloc, context, name, &unknown)?));
-            }
+        if let Some(place) = first_unlisted(scope, names.as_slice()) {
+            let at = place.saturating_add(2);
+            return diagnose_column_name(alloc, context, scope, name, at, diagnosis);
         }
     }
-    let keeps_at = table_at.saturating_add(1);
-    diagnose_rows(alloc, context, table, table_at, keeps, keeps_at, refusal)
+    diagnose_rows(alloc, context, rows, refusal, diagnosis)
 }
 
-fn diagnose_update(
-    alloc: Global,
-    context: Context,
-    table: &Text,
-    sets: &[Assignment],
-    keeps: &Option<Boxed<Condition>>,
-    refusal: &Refusal,
-) -> Result<Option<Diagnosis>, AllocError> {
-    let mut at = 2usize;
-    if let Some(scope) = scope_of(context.catalog, table) {
-        for assignment in sets {
-            if let Some(found) = diagnose_column(alloc, context, scope, assignment, at, refusal)? {
-                return Ok(Some(found));
-            }
-            at = at.saturating_add(leaves_of(assignment));
-        }
-        at = 2;
-        for assignment in sets {
-            if let Some(found) = diagnose_value(alloc, context, scope, assignment, at, refusal)? {
-                return Ok(Some(found));
-            }
-            at = at.saturating_add(leaves_of(assignment));
+/// The place of the first of some names that is no column of a table.
+fn first_unlisted(scope: Scope, names: &[Text]) -> Option<usize> {
+    for (place, name) in names.iter().enumerate() {
+        if scope.schema.column(name).is_none() {
+            return Some(place);
         }
     }
-    diagnose_rows(alloc, context, table, 1, keeps, at, refusal)
+    None
+}
+
+/// Says that the name at a leaf is no column of a statement's table. That is always found.
+fn diagnose_column_name(
+    alloc: Global,
+    context: Context,
+    scope: Scope,
+    name: &Text,
+    leaf: usize,
+    diagnosis: &mut Diagnosis,
+) -> Result<bool, AllocError> {
+    let scopes = slice::from_ref(&scope);
+    let unknown = unknown_column(alloc, scopes, name, leaf)?;
+    diagnose_name(alloc, context, name, &unknown, scopes, diagnosis)?;
+    Ok(true)
+}
+
+/// An assignment of an UPDATE to this table, and where its leaves begin.
+#[derive(Clone, Copy)]
+struct Assigned<'a> {
+    scope: Scope<'a>,
+    assignment: &'a Assignment,
+    at: usize,
 }
 
 /// A column's name, the sign, and what it is given.
@@ -230,163 +300,268 @@ fn leaves_of(assignment: &Assignment) -> usize {
     }
 }
 
-/// What is wrong with the column of an assignment.
+/// Where the leaves behind the assignments of an UPDATE begin.
+fn behind(sets: &[Assignment]) -> usize {
+    let mut at = 2usize;
+    for assignment in sets {
+        at = at.saturating_add(leaves_of(assignment));
+    }
+    at
+}
+
+/// Puts the assignments of an UPDATE to a table behind others.
+fn push_assigned<'a>(
+    scope: Scope<'a>,
+    sets: &'a [Assignment],
+    assigned: &mut Vec<Assigned<'a>>,
+) -> Result<(), AllocError> {
+    for (place, assignment) in sets.iter().enumerate() {
+        assigned.push(Assigned {
+            scope,
+            assignment,
+            at: behind(sets.get(..place).unwrap_or(&[])),
+        })?;
+    }
+    Ok(())
+}
+
+fn diagnose_update(
+    alloc: Global,
+    context: Context,
+    sets: &[Assignment],
+    rows: Rows,
+    refusal: &Refusal,
+    diagnosis: &mut Diagnosis,
+) -> Result<bool, AllocError> {
+    let mut assigned = Vec::new(alloc);
+    if let Some(scope) = rows.scope(context.catalog) {
+        push_assigned(scope, sets, &mut assigned)?;
+    }
+    if diagnose_sets(alloc, context, &assigned, refusal, diagnosis)? {
+        return Ok(true);
+    }
+    diagnose_rows(alloc, context, rows, refusal, diagnosis)
+}
+
+/// Says what is wrong with a column that is assigned, or else with what one is given, if that is found.
+fn diagnose_sets(
+    alloc: Global,
+    context: Context,
+    sets: &[Assigned],
+    refusal: &Refusal,
+    diagnosis: &mut Diagnosis,
+) -> Result<bool, AllocError> {
+    for assigned in sets {
+        if diagnose_column(alloc, context, *assigned, refusal, diagnosis)? {
+            return Ok(true);
+        }
+    }
+    for assigned in sets {
+        if diagnose_value(alloc, context, *assigned, refusal, diagnosis)? {
+            return Ok(true);
+        }
+    }
+    Ok(false)
+}
+
+/// Says what is wrong with the column of an assignment, if that is found.
 fn diagnose_column(
     alloc: Global,
     context: Context,
-    scope: Scope,
-    assignment: &Assignment,
-    at: usize,
+    assigned: Assigned,
     refusal: &Refusal,
-) -> Result<Option<Diagnosis>, AllocError> {
+    diagnosis: &mut Diagnosis,
+) -> Result<bool, AllocError> {
+    let Assigned {
+        scope,
+        assignment,
+        at,
+    } = assigned;
     let column = &assignment.column;
     match refusal {
         Refusal::UnknownName { name } if scope.schema.column(column).is_none() => {
-            let unknown = unknown_column(alloc, &[scope], name, at)?;
-            Ok(Some(diagnose_name(alloc, context, name, &unknown)?))
+            diagnose_column_name(alloc, context, scope, name, at, diagnosis)
         }
         Refusal::KeyUpdate { column: key } if *key == *column => {
-            let found = Diagnosis::new(
-                alloc,
-                context.which,
-                8,
-                format!(in alloc; "{key} is the key, and no UPDATE assigns it")?,
-                context.name_at(context.piece.leaf(at), key),
-            )
-            .with(String::from_str(
-                alloc,
-                "Put the row in under its new key, and take the old one out.",
-            )?)?;
-            Ok(Some(found))
+            diagnose_key(context, key, at, diagnosis)
         }
-        _ => Ok(None),
+        _ => Ok(false),
     }
 }
 
-/// What is wrong with what an assignment gives.
+/// Says that the key at a leaf is assigned. That is always found.
+fn diagnose_key(
+    context: Context,
+    key: &Text,
+    leaf: usize,
+    diagnosis: &mut Diagnosis,
+) -> Result<bool, AllocError> {
+    diagnosis.place(8, context.name_at(context.piece.leaf(leaf), key));
+    write!(diagnosis.what, "{key} is the key, and no UPDATE assigns it")?;
+    diagnosis.advise("Put the row in under its new key, and take the old one out.")?;
+    Ok(true)
+}
+
+/// Says what is wrong with what an assignment gives, if that is found.
 fn diagnose_value(
     alloc: Global,
     context: Context,
-    scope: Scope,
-    assignment: &Assignment,
-    at: usize,
+    assigned: Assigned,
     refusal: &Refusal,
-) -> Result<Option<Diagnosis>, AllocError> {
-    let UpdateSource::To(expression) = &assignment.value else {
-        return Ok(None);
+    diagnosis: &mut Diagnosis,
+) -> Result<bool, AllocError> {
+    let UpdateSource::To(expression) = &assigned.assignment.value else {
+        return Ok(false);
     };
-    let at = at.saturating_add(2);
-    let parts = parts_of_expression(alloc, expression, at)?;
+    let given = Given {
+        expression,
+        at: assigned.at.saturating_add(2),
+        assigned,
+    };
     match refusal {
-        Refusal::UnknownName { name } => {
-            match first_unknown(alloc, context.catalog, &[scope], &parts)? {
-                Some(unknown) => Ok(Some(diagnose_name(alloc, context, name, &unknown)?)),
-                None => Ok(None),
-            }
-        }
-        Refusal::OutsideClass => match in_parts(&parts) {
-            Some(outside) => Ok(Some(diagnose_shape(alloc, context, outside)?)),
-            None => Ok(None),
-        },
-        Refusal::TypeMismatch => {
-            match of_type(alloc, context.catalog, &[scope], expression, at)? {
-                Err(mismatch) => Ok(Some(diagnose_types(alloc, context, mismatch)?)),
-                Ok(found) => diagnose_assigned(alloc, context, scope, assignment, found, at),
-            }
-        }
-        Refusal::TooWide => match first_wide(alloc, &parts)? {
-            Some(wide) => Ok(Some(diagnose_width(alloc, context, &wide)?)),
-            None => Ok(None),
-        },
-        _ => Ok(None),
+        Refusal::TypeMismatch => diagnose_given_type(alloc, context, given, diagnosis),
+        _ => diagnose_given(alloc, context, given, refusal, diagnosis),
     }
 }
 
-/// An expression of another type than its column.
-fn diagnose_assigned(
+/// An expression that an assignment gives, and where its leaves begin.
+#[derive(Clone, Copy)]
+struct Given<'a> {
+    expression: &'a Expression,
+    at: usize,
+    assigned: Assigned<'a>,
+}
+
+/// Says what is wrong with the parts of an expression, if that is found.
+fn diagnose_given(
     alloc: Global,
     context: Context,
-    scope: Scope,
-    assignment: &Assignment,
+    given: Given,
+    refusal: &Refusal,
+    diagnosis: &mut Diagnosis,
+) -> Result<bool, AllocError> {
+    let parts = parts_of_expression(alloc, given.expression, given.at)?;
+    match refusal {
+        Refusal::UnknownName { name } => {
+            let scopes = slice::from_ref(&given.assigned.scope);
+            diagnose_unknown(alloc, context, name, &parts, scopes, diagnosis)
+        }
+        Refusal::OutsideClass => diagnose_shape(context, in_parts(&parts), diagnosis),
+        Refusal::TooWide => diagnose_width(alloc, context, &parts, diagnosis),
+        _ => Ok(false),
+    }
+}
+
+/// Says which types do not fit in an expression, or that it is of another type than its column, if that is found.
+fn diagnose_given_type(
+    alloc: Global,
+    context: Context,
+    given: Given,
+    diagnosis: &mut Diagnosis,
+) -> Result<bool, AllocError> {
+    let scopes = slice::from_ref(&given.assigned.scope);
+    match of_type(alloc, context.catalog, scopes, given.expression, given.at)? {
+        Err(mismatch) => diagnose_types(context, mismatch, diagnosis),
+        Ok(found) => diagnose_assigned(context, given, found, diagnosis),
+    }
+}
+
+/// The column that an assignment sets.
+fn column_of<'a>(assigned: Assigned<'a>) -> Option<&'a Column> {
+    let schema = assigned.scope.schema;
+    schema
+        .columns()
+        .get(schema.column(&assigned.assignment.column)?)
+}
+
+/// Says that an expression is of another type than its column, if it is.
+fn diagnose_assigned(
+    context: Context,
+    given: Given,
     found: DataType,
-    at: usize,
-) -> Result<Option<Diagnosis>, AllocError> {
-    let (Some(place), UpdateSource::To(expression)) = (
-        scope.schema.column(&assignment.column),
-        &assignment.value,
-    ) else {
-        return Ok(None);
-    };
-    let Some(column) = scope.schema.columns().get(place) else {
-        return Ok(None);
+    diagnosis: &mut Diagnosis,
+) -> Result<bool, AllocError> {
+    let Some(column) = column_of(given.assigned) else {
+        return Ok(false);
     };
     let wanted = DataType::from(column.kind);
     if wanted == found {
-        return Ok(None);
+        return Ok(false);
     }
-    let (one, other) = (type_name(wanted), type_name(found));
-    let name = &column.name;
-    let made = Diagnosis::new(
-        alloc,
-        context.which,
-        5,
-        format!(in alloc; "a value of type {other} for a column of type {one}")?,
-        context.range(Range::of(expression, at)),
-    )
-    .with(format!(in alloc; "{name} is of type {one}.")?)?;
-    Ok(Some(made))
+    let (one, name) = (type_name(wanted), &column.name);
+    diagnosis.place(5, context.range(Range::of(given.expression, given.at)));
+    push_value_of_type(type_name(found), one, &mut diagnosis.what)?;
+    writeln!(diagnosis.advice, "{name} is of type {one}.")?;
+    Ok(true)
 }
 
-/// What is wrong with the names of VERDICT and SET CONSTRAINTS.
+/// Says what is wrong with the names of VERDICT and SET CONSTRAINTS, if that is found.
 fn diagnose_asserted(
     alloc: Global,
     context: Context,
     view: &View,
     refusal: &Refusal,
-) -> Result<Diagnosis, AllocError> {
+    diagnosis: &mut Diagnosis,
+) -> Result<bool, AllocError> {
     match refusal {
-        Refusal::UnknownName { name } => Diagnosis::new(
-            alloc,
-            context.which,
-            3,
-            format!(in alloc; "there is no assertion {name}")?,
-            asserted_at(context, name),
-        )
-        .with(assertions_there(alloc, view, name)?),
-        Refusal::NotDeferrable { assertion } => Diagnosis::new(
-            alloc,
-            context.which,
-            11,
-            format!(in alloc; "{assertion} is not deferrable")?,
-            asserted_at(context, assertion),
-        )
-        .with(String::from_str(
-            alloc,
-            "Write DEFERRABLE behind its CREATE ASSERTION .. CHECK (..), if it may be checked at COMMIT alone.",
-        )?),
-        _ => diagnose_whole(alloc, context, refusal),
+        Refusal::UnknownName { name } => {
+            diagnosis.place(3, asserted_at(context, name));
+            write!(diagnosis.what, "there is no assertion {name}")?;
+            push_assertions(alloc, view, name, &mut diagnosis.advice)?;
+        }
+        Refusal::NotDeferrable { assertion } => {
+            diagnosis.place(11, asserted_at(context, assertion));
+            write!(diagnosis.what, "{assertion} is not deferrable")?;
+            diagnosis.advise(
+                "Write DEFERRABLE behind its CREATE ASSERTION .. CHECK (..), if it may be checked at COMMIT alone.",
+            )?;
+        }
+        _ => return Ok(false),
+    }
+    Ok(true)
+}
+
+/// At most so many names of assertions are listed.
+const MOST_NAMES: usize = 8;
+
+/// A line of which assertion may be meant, or which there are.
+fn push_assertions(
+    alloc: Global,
+    view: &View,
+    name: &Text,
+    advice: &mut String,
+) -> Result<(), AllocError> {
+    if view.assertions().is_empty() {
+        return advice.push_str("DEFS has no assertion.\n");
+    }
+    match nearest_assertion(alloc, view, name)? {
+        Some(near) => writeln!(advice, "The nearest name is {near}."),
+        None => push_assertion_names(alloc, view, advice),
     }
 }
 
-/// Which assertion may be meant, or which there are.
-fn assertions_there(alloc: Global, view: &View, name: &Text) -> Result<String, AllocError> {
-    let mut nearest = Nearest::of(alloc, name)?;
-    let mut names = Vec::new(alloc);
+/// The name of an assertion that is nearest to another.
+fn nearest_assertion<'a>(
+    alloc: Global,
+    view: &'a View,
+    name: &'a Text,
+) -> Result<Option<&'a str>, AllocError> {
+    let mut nearest = Nearest::of(name);
     for assertion in view.assertions() {
-        let other = &assertion.name;
-        nearest.offer_name(alloc, other)?;
-        if names.len() < MOST_NAMES {
-            names.push(format!(in alloc; "{other}")?)?;
-        }
+        nearest.offer_name(alloc, &assertion.name)?;
     }
-    match nearest.found() {
-        Some(near) => format!(in alloc; "The nearest name is {near}."),
-        None if names.is_empty() => String::from_str(alloc, "DEFS has no assertion."),
-        None => {
-            let names = enumeration(alloc, &names, " and ")?;
-            format!(in alloc; "The assertions: {names}.")
-        }
+    Ok(nearest.found())
+}
+
+/// A line of the names of the first assertions.
+fn push_assertion_names(alloc: Global, view: &View, advice: &mut String) -> Result<(), AllocError> {
+    let mut names = Vec::new(alloc);
+    for assertion in view.assertions().iter().take(MOST_NAMES) {
+        names.push(&assertion.name)?;
     }
+    advice.push_str("The assertions: ")?;
+    push_names(&names, advice)?;
+    advice.push_str(".\n")
 }
 
 /// The first of the names behind the session's that is this one.

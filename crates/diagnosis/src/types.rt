@@ -25,6 +25,19 @@ pub enum Mismatch {
     SumOfTexts(Range),
 }
 
+impl Mismatch {
+    /// The leaves of what does not fit.
+    pub fn range(self) -> Range {
+        match self {
+            Mismatch::Compared { left, right, .. } => Range {
+                from: left.from,
+                to: right.to,
+            },
+            Mismatch::Computed(range) | Mismatch::SumOfTexts(range) => range,
+        }
+    }
+}
+
 /// The type of an expression, or the first mismatch in it.
 pub type TypeOrMismatch = Result<DataType, Mismatch>;
 

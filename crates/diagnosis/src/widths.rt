@@ -17,61 +17,55 @@ pub struct BoundedPart {
     pub bound: u128,
 }
 
-/// An expression without a bound, each part of which has one.
-#[derive(Drop)]
-pub struct Wide {
+/// A sum or a product without a bound, each part of which has one.
+#[derive(Clone, Copy)]
+pub struct Wide<'a> {
     pub range: Range,
     pub is_product: bool,
-    pub parts: Vec<BoundedPart>,
+    pub parts: &'a [Expression],
 }
 
 /// The first expression without a bound among the parts of a tree, the innermost of those that hold one another.
-pub fn first_wide(alloc: Global, parts: &[Part]) -> Result<Option<Wide>, AllocError> {
+pub fn first_wide<'a>(alloc: Global, parts: &[Part<'a>]) -> Result<Option<Wide<'a>>, AllocError> {
     for part in parts {
         if let Node::Arithmetic(expression) = part.node {
             if bound_of(alloc, expression)?.is_none() {
-                return Ok(wide_of(alloc, expression, part.range)?);
+                return Ok(wide_of(expression, part.range));
             }
         }
     }
     Ok(None)
 }
 
-/// A sum or a product with the bounds of its parts.
-fn wide_of(
-    alloc: Global,
-    expression: &Expression,
-    range: Range,
-) -> Result<Option<Wide>, AllocError> {
+/// A sum or a product of these leaves.
+fn wide_of<'a>(expression: &'a Expression, range: Range) -> Option<Wide<'a>> {
     let (parts, is_product) = match expression {
         Expression::Sum(parts) => (parts, false),
         Expression::Product(parts) => (parts, true),
-        _ => return Ok(None),
+        _ => return None,
     };
-    let parts = bounds_of(alloc, parts.as_slice(), range.from)?;
-    Ok(Some(Wide {
+    Some(Wide {
         range,
         is_product,
-        parts,
-    }))
+        parts: parts.as_slice(),
+    })
 }
 
-/// The bounds of parts that each have one, and whose leaves begin here.
-fn bounds_of(
+/// Puts the bounds of the parts of an expression behind others.
+pub fn push_bounds(
     alloc: Global,
-    parts: &[Expression],
-    at: usize,
-) -> Result<Vec<BoundedPart>, AllocError> {
-    let mut made = Vec::new(alloc);
-    let mut at = at;
-    for part in parts {
+    wide: Wide,
+    bounded: &mut Vec<BoundedPart>,
+) -> Result<(), AllocError> {
+    let mut at = wide.range.from;
+    for part in wide.parts {
         let range = Range::of(part, at);
         if let Some(bound) = bound_of(alloc, part)? {
-            made.push(BoundedPart { range, bound })?;
+            bounded.push(BoundedPart { range, bound })?;
         }
         at = range.to;
     }
-    Ok(made)
+    Ok(())
 }
 
 /// The bound of an expression, if it has one.

@@ -2,52 +2,49 @@
 
 use delta::View;
 use history::column_name;
-use std::alloc::AllocError;
+use printout::{Printout, sign_of};
 use table::{Cond, Expr, Row};
-use value::Comparison;
+
+/// The table whose columns a condition is over, and the row around it, if there is one.
+#[derive(Drop)]
+pub struct Scope<'a> {
+    pub view: &'a View,
+    pub table: usize,
+    pub around: Option<&'a Row>,
+}
 
 /// Adds a condition over the columns of a table. What the row around holds is written as the value that it has there.
 /// BETWEEN and IN are written as what they abbreviate.
-pub fn add_condition(
-    condition: &Cond,
-    view: &View,
-    table: usize,
-    around: Option<&Row>,
-    out: &mut String,
-) -> Result<(), AllocError> {
+pub fn add_condition(condition: &Cond, scope: &Scope<'_>, out: &mut Printout) {
     match condition {
         Cond::Compare(comparison, left, right) => {
-            add_expression(left, view, table, around, out)?;
-            let sign = sign_of(*comparison);
-            write!(out, " {sign} ")?;
-            add_expression(right, view, table, around, out)
+            add_expression(left, scope, out);
+            out.add_all(&[" ", sign_of(*comparison), " "]);
+            add_expression(right, scope, out);
         }
         Cond::IsNull(part) => {
-            add_expression(part, view, table, around, out)?;
-            out.push_str(" IS NULL")
+            add_expression(part, scope, out);
+            out.add(" IS NULL");
         }
-        Cond::Exists(_) => out.push_str("EXISTS (..)"),
+        Cond::Exists(_) => out.add("EXISTS (..)"),
         Cond::Is(part, wanted) => {
-            out.push_str("(")?;
-            add_condition(part.get(), view, table, around, out)?;
-            let word = wanted.name();
-            write!(out, ") IS {word}")
+            out.add("(");
+            add_condition(part.get(), scope, out);
+            out.add_all(&[") IS ", wanted.name()]);
         }
         Cond::Not(part) => {
-            out.push_str("NOT (")?;
-            add_condition(part.get(), view, table, around, out)?;
-            out.push_str(")")
+            out.add("NOT (");
+            add_condition(part.get(), scope, out);
+            out.add(")");
         }
         Cond::And(parts) | Cond::Or(parts) => {
             let (open, word, close) = marks_of(condition);
-            out.push_str(open)?;
+            out.add(open);
             for (place, part) in parts.as_slice().iter().enumerate() {
-                if place > 0 {
-                    out.push_str(word)?;
-                }
-                add_condition(part, view, table, around, out)?;
+                out.add(if place == 0 { "" } else { word });
+                add_condition(part, scope, out);
             }
-            out.push_str(close)
+            out.add(close);
         }
     }
 }
@@ -61,37 +58,30 @@ fn marks_of(condition: &Cond) -> (&'static str, &'static str, &'static str) {
 }
 
 /// Adds an expression, a sum or a product in parentheses.
-fn add_expression(
-    expression: &Expr,
-    view: &View,
-    table: usize,
-    around: Option<&Row>,
-    out: &mut String,
-) -> Result<(), AllocError> {
+fn add_expression(expression: &Expr, scope: &Scope<'_>, out: &mut Printout) {
     match expression {
-        Expr::Literal(value) => write!(out, "{value}"),
-        Expr::Column(column) => match column_name(view, table, *column) {
-            Some(name) => write!(out, "{name}"),
-            None => Ok(()),
-        },
-        Expr::Slot(slot) => match around.and_then(|row| row.values().get(*slot)) {
-            Some(value) => write!(out, "{value}"),
-            None => out.push_str("(..)"),
+        Expr::Literal(value) => out.show(value),
+        Expr::Column(column) => {
+            if let Some(name) = column_name(scope.view, scope.table, *column) {
+                out.show(name);
+            }
+        }
+        Expr::Slot(slot) => match scope.around.and_then(|row| row.values().get(*slot)) {
+            Some(value) => out.show(value),
+            None => out.add("(..)"),
         },
         Expr::Negation(part) => {
-            out.push_str("-")?;
-            add_expression(part.get(), view, table, around, out)
+            out.add("-");
+            add_expression(part.get(), scope, out);
         }
         Expr::Sum(parts) | Expr::Product(parts) => {
             let sign = sign_between(expression);
-            out.push_str("(")?;
+            out.add("(");
             for (place, part) in parts.as_slice().iter().enumerate() {
-                if place > 0 {
-                    out.push_str(sign)?;
-                }
-                add_expression(part, view, table, around, out)?;
+                out.add(if place == 0 { "" } else { sign });
+                add_expression(part, scope, out);
             }
-            out.push_str(")")
+            out.add(")");
         }
     }
 }
@@ -101,17 +91,5 @@ fn sign_between(expression: &Expr) -> &'static str {
     match expression {
         Expr::Product(_) => " * ",
         _ => " + ",
-    }
-}
-
-/// A comparison as SQL writes it.
-fn sign_of(comparison: Comparison) -> &'static str {
-    match comparison {
-        Comparison::Equal => "=",
-        Comparison::NotEqual => "<>",
-        Comparison::Less => "<",
-        Comparison::AtMost => "<=",
-        Comparison::Greater => ">",
-        Comparison::AtLeast => ">=",
     }
 }

@@ -1,29 +1,36 @@
 //! Commits in the way of one that was refused.
 
-use crate::stories::{MOST_LINES, Story, add_left_out, add_snapshot, number_of};
-use history::{
-    Conflict, End, Happening, Reader, Transaction, add_change, add_key, conflicts_between,
-};
+use crate::stories::{MOST_LINES, Story, add_count, add_left_out, add_number, add_snapshot};
+use history::{Conflict, End, Happening, Reader, Transaction, push_conflicts};
+use printout::Printout;
 use siread::is_same;
 use std::alloc::{AllocError, Global};
 use table::Change;
 use value::{Party, Value};
 
-/// Adds who a transaction is: a commit by its number, or the one that was refused.
-fn add_who(story: Story<'_>, it: &Transaction, out: &mut String) -> Result<(), AllocError> {
+/// Adds the name of a transaction: a commit by its number, or the one that was refused.
+fn add_name(it: &Transaction, out: &mut Printout) {
     match it.end {
         End::Committed => {
-            let number = it.number;
-            write!(out, "commit {number}")?;
+            out.add("commit ");
+            out.show(it.number);
         }
-        _ => out.push_str("this transaction")?,
+        _ => out.add("this transaction"),
     }
-    let (first, last) = (number_of(it.begun), number_of(it.ended));
-    if let Some(name) = story.session(it.session) {
-        write!(out, " (session {name}, events {first} to {last}, ")?;
+}
+
+/// Adds who a transaction is: its name, its session, its events and its snapshot.
+fn add_who(story: Story<'_>, it: &Transaction, out: &mut Printout) {
+    add_name(it, out);
+    if let Some(name) = story.history.session(it.session) {
+        out.add(" (session ");
+        out.show(name);
+        add_number(", events ", it.begun, out);
+        add_number(" to ", it.ended, out);
+        out.add(", ");
     }
-    add_snapshot(it, out)?;
-    out.push_str(")")
+    add_snapshot(it, out);
+    out.add(")");
 }
 
 /// Adds the row that both a refused transaction and a commit after its snapshot changed.
@@ -32,40 +39,32 @@ pub fn add_write_conflict(
     this: &Transaction,
     key: &Value,
     by: u64,
-    out: &mut String,
-) -> Result<(), AllocError> {
+    out: &mut Printout,
+) {
     let Some(other) = story.history.commit(by) else {
-        return Ok(());
+        return;
     };
-    out.push_str("  in the way: ")?;
-    add_who(story, other, out)?;
-    out.push_str("\n  both changed one row, and the first to commit wins:\n")?;
-    let changes = this.changes.as_slice();
-    let shared = changes
-        .iter()
-        .find(|it| is_same(&it.key, key) && is_changed_by(other, it));
+    out.add("  in the way: ");
+    add_who(story, other, out);
+    out.add("\n  both changed one row, and the first to commit wins:\n");
+    let shared = this.changes.as_slice().iter().find(|it| is_same(&it.key, key)
+        && change_of_row(other, it).is_some());
     let Some(shared) = shared else {
-        return Ok(());
+        return;
     };
-    add_change_of(story, this, shared, out)?;
-    match other
-        .changes
-        .as_slice()
-        .iter()
-        .find(|it| is_of_row(it, shared))
-    {
-        Some(change) => add_change_of(story, other, change, out),
-        None => Ok(()),
+    add_change_of(story, this, shared, out);
+    if let Some(change) = change_of_row(other, shared) {
+        add_change_of(story, other, change, out);
     }
 }
 
-/// Whether a transaction changed the row of a change.
-fn is_changed_by(other: &Transaction, change: &Change) -> bool {
+/// What a transaction did to the row of a change, if it changed it.
+fn change_of_row<'a>(other: &'a Transaction, change: &Change) -> Option<&'a Change> {
     other
         .changes
         .as_slice()
         .iter()
-        .any(|it| is_of_row(it, change))
+        .find(|it| is_of_row(it, change))
 }
 
 /// Whether two changes are of one row.
@@ -74,41 +73,24 @@ fn is_of_row(one: &Change, other: &Change) -> bool {
 }
 
 /// Adds what a transaction did to a row, and the statements that did.
-fn add_change_of(
-    story: Story<'_>,
-    it: &Transaction,
-    change: &Change,
-    out: &mut String,
-) -> Result<(), AllocError> {
-    out.push_str("    ")?;
-    match it.end {
-        End::Committed => {
-            let number = it.number;
-            write!(out, "commit {number}: ")?;
-        }
-        _ => out.push_str("this transaction: ")?,
-    }
-    add_change(&story.history.loaded, change, out)?;
-    add_changers(story, it, change, out)?;
-    out.push_str("\n")
+fn add_change_of(story: Story<'_>, it: &Transaction, change: &Change, out: &mut Printout) {
+    out.add("    ");
+    add_name(it, out);
+    out.add(": ");
+    story.history.add_change(change, out);
+    add_changers(story, it, change, out);
+    out.add("\n");
 }
 
 /// Adds the events of a transaction that changed a row.
-fn add_changers(
-    story: Story<'_>,
-    it: &Transaction,
-    change: &Change,
-    out: &mut String,
-) -> Result<(), AllocError> {
+fn add_changers(story: Story<'_>, it: &Transaction, change: &Change, out: &mut Printout) {
     let mut front = ", by event ";
     for (event, happening) in story.history.events.as_slice().iter().enumerate() {
         if it.begun <= event && event <= it.ended && is_changer(it, happening, change) {
-            let number = number_of(event);
-            write!(out, "{front}{number}")?;
+            add_number(front, event, out);
             front = " and ";
         }
     }
-    Ok(())
 }
 
 /// Whether an event of a transaction changed a row and was not refused.
@@ -129,16 +111,15 @@ struct Role<'a> {
     transaction: &'a Transaction,
 }
 
-/// Adds the two conflicts of a dangerous triple.
+/// Adds the two conflicts of a dangerous triple of a reader, a pivot and a writer.
 pub fn add_triple(
     alloc: Global,
     story: Story<'_>,
     this: &Transaction,
-    reader: Party,
-    pivot: Party,
-    writer: Party,
-    out: &mut String,
+    parties: [Party; 3],
+    out: &mut Printout,
 ) -> Result<(), AllocError> {
+    let [reader, pivot, writer] = parties;
     let (Some(reader), Some(pivot), Some(writer)) = (
         role_of(story, this, "reader", reader),
         role_of(story, this, "pivot", pivot),
@@ -146,29 +127,31 @@ pub fn add_triple(
     ) else {
         return Ok(());
     };
-    out.push_str("  a dangerous triple: reader, pivot and writer may have no serial order\n")?;
+    out.add("  a dangerous triple: reader, pivot and writer may have no serial order\n");
     for role in &[reader, pivot, writer] {
-        let name = role.name;
-        write!(out, "  {name}: ")?;
-        add_who(story, role.transaction, out)?;
-        out.push_str("\n")?;
+        add_role(story, *role, out);
     }
-    add_reach(reader, writer, out)?;
+    add_reach(reader, writer, out);
     add_edge(alloc, story, reader, pivot, out)?;
     add_edge(alloc, story, pivot, writer, out)
 }
 
+/// Adds who has a part of a triple.
+fn add_role(story: Story<'_>, role: Role<'_>, out: &mut Printout) {
+    out.add_all(&["  ", role.name, ": "]);
+    add_who(story, role.transaction, out);
+    out.add("\n");
+}
+
 /// Adds why a reader that is read only is in danger: its snapshot holds the writer.
-fn add_reach(reader: Role<'_>, writer: Role<'_>, out: &mut String) -> Result<(), AllocError> {
-    let (reader, writer) = (reader.transaction, writer.transaction);
-    if !reader.read_only {
-        return Ok(());
+fn add_reach(reader: Role<'_>, writer: Role<'_>, out: &mut Printout) {
+    if reader.transaction.read_only {
+        out.add("  the reader is read only, and its snapshot ");
+        out.show(reader.transaction.snapshot);
+        out.add(" holds the writer, commit ");
+        out.show(writer.transaction.number);
+        out.add("\n");
     }
-    let (snapshot, number) = (reader.snapshot, writer.number);
-    write!(
-        out,
-        "  the reader is read only, and its snapshot {snapshot} holds the writer, commit {number}\n"
-    )
 }
 
 /// The transaction that a refusal names, with this part.
@@ -191,33 +174,38 @@ fn add_edge(
     story: Story<'_>,
     from: Role<'_>,
     to: Role<'_>,
-    out: &mut String,
+    out: &mut Printout,
 ) -> Result<(), AllocError> {
-    let conflicts = conflicts_between(alloc, from.transaction, to.transaction)?;
-    let firsts = first_ones(alloc, conflicts.as_slice())?;
-    let (reader, writer, count) = (from.name, to.name, firsts.len());
-    write!(
-        out,
-        "  the {reader} read what the {writer} changed and neither saw the other, by keys: {count}\n"
-    )?;
+    let mut conflicts = Vec::new(alloc);
+    let mut firsts = Vec::new(alloc);
+    push_conflicts(from.transaction, to.transaction, &mut conflicts)?;
+    push_firsts(conflicts.as_slice(), &mut firsts)?;
+    out.add_all(&[
+        "  the ",
+        from.name,
+        " read what the ",
+        to.name,
+        " changed and neither saw the other",
+    ]);
+    add_count(", by keys: ", firsts.len(), out);
     for conflict in firsts.as_slice().iter().take(MOST_LINES) {
-        add_conflict(story, *conflict, conflicts.as_slice(), out)?;
+        add_conflict(story, *conflict, conflicts.as_slice(), out);
     }
-    add_left_out("    ", count, out)
+    add_left_out("    ", firsts.len(), out);
+    Ok(())
 }
 
-/// Of some conflicts the first of each key and reader.
-fn first_ones<'a>(
-    alloc: Global,
+/// Lists of some conflicts the first of each key and reader.
+fn push_firsts<'a>(
     conflicts: &[Conflict<'a>],
-) -> Result<Vec<Conflict<'a>>, AllocError> {
-    let mut firsts: Vec<Conflict<'a>> = Vec::new(alloc);
+    firsts: &mut Vec<Conflict<'a>>,
+) -> Result<(), AllocError> {
     for conflict in conflicts {
         if !firsts.iter().any(|it| it.read.is_again(conflict.read)) {
             firsts.push(*conflict)?;
         }
     }
-    Ok(firsts)
+    Ok(())
 }
 
 /// Adds a key with who read it and when, and the change that touches it.
@@ -225,44 +213,40 @@ fn add_conflict(
     story: Story<'_>,
     conflict: Conflict<'_>,
     conflicts: &[Conflict<'_>],
-    out: &mut String,
-) -> Result<(), AllocError> {
-    out.push_str("    ")?;
-    add_key(&story.history.loaded, &conflict.read.key, out)?;
-    add_reader(story, conflict.read.reader, out)?;
-    add_events_of(conflict, conflicts, out)?;
-    out.push_str("; changed was ")?;
-    add_change(&story.history.loaded, conflict.change, out)?;
-    out.push_str("\n")
+    out: &mut Printout,
+) {
+    out.add("    ");
+    story.history.add_key(&conflict.read.key, out);
+    add_reader(story, conflict.read.reader, out);
+    add_events_of(conflict, conflicts, out);
+    out.add("; changed was ");
+    story.history.add_change(conflict.change, out);
+    out.add("\n");
 }
 
 /// Adds the events at which the key of a conflict was read by the same reader.
-fn add_events_of(
-    conflict: Conflict<'_>,
-    conflicts: &[Conflict<'_>],
-    out: &mut String,
-) -> Result<(), AllocError> {
+fn add_events_of(conflict: Conflict<'_>, conflicts: &[Conflict<'_>], out: &mut Printout) {
     let mut front = " at event ";
     let mut last = None;
     for other in conflicts {
         let event = other.read.event;
         if conflict.read.is_again(other.read) && last != Some(event) {
-            let number = number_of(event);
-            write!(out, "{front}{number}")?;
+            add_number(front, event, out);
             front = " and ";
             last = Some(event);
         }
     }
-    Ok(())
 }
 
 /// Adds who read a key.
-pub fn add_reader(story: Story<'_>, reader: Reader, out: &mut String) -> Result<(), AllocError> {
+pub fn add_reader(story: Story<'_>, reader: Reader, out: &mut Printout) {
     match reader {
-        Reader::Statement => out.push_str(", read by the statement"),
-        Reader::Check(place) => match story.assertion(place) {
-            Some(name) => write!(out, ", read by the check of {name}"),
-            None => Ok(()),
-        },
+        Reader::Statement => out.add(", read by the statement"),
+        Reader::Check(place) => {
+            if let Some(name) = story.history.assertion(place) {
+                out.add(", read by the check of ");
+                out.show(name);
+            }
+        }
     }
 }

@@ -4,8 +4,8 @@ ghost use Rattle.std.specs.Prelude.{◌≤◌};
 
 use crate::happenings::add_event;
 use crate::stories::Story;
-use alone::Answer;
-use history::{Source, read_history};
+use history::{History, Source, read_history};
+use printout::Printout;
 use replay::ProgramFault;
 use std::alloc::{AllocError, Global};
 use std::io;
@@ -21,6 +21,12 @@ pub enum ExplainFault {
     /// The script has no event of the number that was asked for, and so many events.
     #[error("the script has {0} events")]
     NoEvent(usize),
+}
+
+impl From<AllocError> for ExplainFault {
+    fn from(_error: AllocError) -> ExplainFault {
+        ExplainFault::Run(ProgramFault::Stopped)
+    }
 }
 
 impl From<io::Error> for ExplainFault {
@@ -47,12 +53,28 @@ pub fn explain_into<W: Write>(
 ) -> Result<(), ExplainFault>
     requires within { max_commits ≤ 4294967295 }
 {
-    let history = read_history(alloc, defs, script, max_commits)?;
-    let Ok((definitions, events)) = read_sources(alloc, defs, script) else {
-        return Err(ExplainFault::Run(ProgramFault::Stopped));
-    };
+    let mut history = History::new(alloc);
+    match read_history(alloc, defs, script, max_commits, &mut history) {
+        Ok(()) => explain_history(alloc, &history, defs, script, event, out),
+        Err(fault) => Err(ExplainFault::Run(fault)),
+    }
+}
+
+/// Explains what happened when these texts were run.
+fn explain_history<W: Write>(
+    alloc: Global,
+    history: &History,
+    defs: &[u8],
+    script: &[u8],
+    event: Option<u64>,
+    out: &mut W,
+) -> Result<(), ExplainFault> {
+    let mut definitions = Source::new(alloc);
+    let mut events = Source::new(alloc);
+    definitions.read(alloc, defs)?;
+    events.read(alloc, script)?;
     let story = Story {
-        history: &history,
+        history,
         defs,
         definitions: &definitions,
         script,
@@ -62,13 +84,6 @@ pub fn explain_into<W: Write>(
         Some(number) => explain_number(alloc, story, number, out),
         None => explain_refused(alloc, story, out),
     }
-}
-
-/// Both texts, in pieces.
-fn read_sources(alloc: Global, defs: &[u8], script: &[u8]) -> Result<(Source, Source), AllocError> {
-    let definitions = Source::read(alloc, defs)?;
-    let events = Source::read(alloc, script)?;
-    Ok((definitions, events))
 }
 
 /// Explains the event of a number.
@@ -82,7 +97,8 @@ fn explain_number<W: Write>(
     if number == 0 || number > count as u64 {
         return Err(ExplainFault::NoEvent(count));
     }
-    explain_one(alloc, story, (number - 1) as usize, out)?;
+    let mut text = Printout::new(alloc);
+    explain_one(alloc, story, (number - 1) as usize, &mut text, out)?;
     Ok(out.flush()?)
 }
 
@@ -92,29 +108,30 @@ fn explain_refused<W: Write>(
     story: Story<'_>,
     out: &mut W,
 ) -> Result<(), ExplainFault> {
-    let mut refused = 0usize;
+    let mut text = Printout::new(alloc);
+    let mut is_any = false;
     for (event, happening) in story.history.events.as_slice().iter().enumerate() {
-        if let Answer::Refused(_) = &happening.answer {
-            explain_one(alloc, story, event, out)?;
-            refused = refused.saturating_add(1);
+        if happening.is_refused() {
+            explain_one(alloc, story, event, &mut text, out)?;
+            is_any = true;
         }
     }
-    if refused == 0 {
+    if !is_any {
         out.write_all(b"no event was refused\n")?;
     }
     Ok(out.flush()?)
 }
 
-/// Explains an event.
+/// Explains an event, by a text that is empty before and afterwards.
 fn explain_one<W: Write>(
     alloc: Global,
     story: Story<'_>,
     event: usize,
+    text: &mut Printout,
     out: &mut W,
 ) -> Result<(), ExplainFault> {
-    let mut text = String::new(alloc);
-    if add_event(alloc, story, event, &mut text).is_err() {
-        return Err(ExplainFault::Run(ProgramFault::Stopped));
-    }
-    Ok(out.write_all(text.as_bytes())?)
+    add_event(alloc, story, event, text)?;
+    out.write_all(text.text()?.as_bytes())?;
+    text.clear();
+    Ok(())
 }

@@ -2,10 +2,12 @@
 
 use crate::conflicts::{add_triple, add_write_conflict};
 use crate::figures::add_violation;
-use crate::stories::{Story, number_of};
+use crate::stories::{Story, add_number};
 use delta::View;
 use history::{Happening, Transaction, add_row};
+use printout::Printout;
 use std::alloc::{AllocError, Global};
+use std::fmt::Display;
 use value::{Excess, Refusal, Text, Value};
 
 /// Adds why an event was refused: for an assertion its figures, for a commit in the way what both changed, for a
@@ -16,14 +18,12 @@ pub fn add_refusal(
     event: usize,
     happening: &Happening,
     refusal: &Refusal,
-    out: &mut String,
+    out: &mut Printout,
 ) -> Result<(), AllocError> {
-    match (refusal, &happening.view, story.transaction_of(event)) {
+    let this = story.transaction_of(event);
+    match (refusal, &happening.view, this) {
         (Refusal::Violated { assertion, group }, Some(view), _) => {
-            add_violation(alloc, story, view, assertion, group, out)
-        }
-        (Refusal::WriteConflict { table: _, key, by }, _, Some(this)) => {
-            add_write_conflict(story, this, key, *by, out)
+            return add_violation(alloc, story, view, assertion, group, out);
         }
         (
             Refusal::Dangerous {
@@ -33,123 +33,127 @@ pub fn add_refusal(
             },
             _,
             Some(this),
-        ) => add_triple(alloc, story, this, *reader, *pivot, *writer, out),
+        ) => return add_triple(alloc, story, this, [*reader, *pivot, *writer], out),
+        (Refusal::WriteConflict { table: _, key, by }, _, Some(this)) => {
+            add_write_conflict(story, this, key, *by, out)
+        }
         (Refusal::DuplicateKey { table, key }, Some(view), _) => {
-            add_sentence(refusal, out)?;
-            add_row_under(view, table, key, out)
+            add_sentence(refusal, out);
+            add_row_under(view, table, key, out);
         }
         (Refusal::TransactionOpen, _, _) => add_open(story, event, happening.session, out),
         (Refusal::ReadOnlyTransaction, _, Some(this)) => add_read_only(this, out),
         _ => add_sentence(refusal, out),
     }
-}
-
-/// Adds since when a transaction is open in a session.
-fn add_open(
-    story: Story<'_>,
-    event: usize,
-    session: usize,
-    out: &mut String,
-) -> Result<(), AllocError> {
-    let Some(begun) = begun_of(story, event, session) else {
-        return Ok(());
-    };
-    let number = number_of(begun);
-    write!(
-        out,
-        "  A transaction is open in this session since event {number}; COMMIT or ROLLBACK ends it.\n"
-    )
-}
-
-/// Adds where a transaction began READ ONLY, and how one begins that may write.
-fn add_read_only(this: &Transaction, out: &mut String) -> Result<(), AllocError> {
-    let begun = number_of(this.begun);
-    write!(
-        out,
-        "  The transaction began READ ONLY, at event {begun}. To write, end it, and begin one by BEGIN alone.\n"
-    )
-}
-
-/// The BEGIN of a session's last transaction before an event.
-fn begun_of(story: Story<'_>, event: usize, session: usize) -> Option<usize> {
-    let transactions = story.history.transactions.as_slice();
-    match transactions
-        .iter()
-        .rfind(|it| it.session == session && it.begun < event)
-    {
-        Some(it) => Some(it.begun),
-        None => None,
-    }
-}
-
-/// Adds the row that stands under a key.
-fn add_row_under(
-    view: &View,
-    table: &Text,
-    key: &Value,
-    out: &mut String,
-) -> Result<(), AllocError> {
-    let Some(table) = view.catalog().position(table) else {
-        return Ok(());
-    };
-    if let Some(row) = view.row(table, key) {
-        out.push_str("    ")?;
-        add_row(row, out)?;
-        out.push_str("\n")?;
-    }
     Ok(())
 }
 
+/// Adds since when a transaction is open in a session.
+fn add_open(story: Story<'_>, event: usize, session: usize, out: &mut Printout) {
+    let transactions = story.history.transactions.as_slice();
+    let open = transactions
+        .iter()
+        .rfind(|it| it.session == session && it.begun < event);
+    if let Some(open) = open {
+        add_number(
+            "  A transaction is open in this session since event ",
+            open.begun,
+            out,
+        );
+        out.add("; COMMIT or ROLLBACK ends it.\n");
+    }
+}
+
+/// Adds where a transaction began READ ONLY, and how one begins that may write.
+fn add_read_only(this: &Transaction, out: &mut Printout) {
+    add_number(
+        "  The transaction began READ ONLY, at event ",
+        this.begun,
+        out,
+    );
+    out.add(". To write, end it, and begin one by BEGIN alone.\n");
+}
+
+/// Adds the row that stands under a key.
+fn add_row_under(view: &View, table: &Text, key: &Value, out: &mut Printout) {
+    let Some(table) = view.catalog().position(table) else {
+        return;
+    };
+    if let Some(row) = view.row(table, key) {
+        out.add("    ");
+        add_row(row, out);
+        out.add("\n");
+    }
+}
+
 /// Adds a fault in a sentence.
-fn add_sentence(refusal: &Refusal, out: &mut String) -> Result<(), AllocError> {
+fn add_sentence(refusal: &Refusal, out: &mut Printout) {
     match refusal {
         Refusal::UnknownName { name } => {
-            write!(out, "  Nothing that may stand there has the name {name}.\n")
+            add_around(
+                "  Nothing that may stand there has the name ",
+                name,
+                ".\n",
+                out,
+            )
         }
-        Refusal::NameTaken { name } => write!(out, "  The column {name} is named twice.\n"),
+        Refusal::NameTaken { name } => add_around("  The column ", name, " is named twice.\n", out),
         Refusal::NotDeferrable { assertion } => {
-            write!(out, "  {assertion} was not created DEFERRABLE.\n")
+            add_around("  ", assertion, " was not created DEFERRABLE.\n", out)
         }
         Refusal::NoTransaction => {
-            out.push_str("  No transaction is open in this session; BEGIN begins one.\n")
+            out.add("  No transaction is open in this session; BEGIN begins one.\n")
         }
-        Refusal::EpochFull => {
-            out.push_str("  There are as many commits as --max-commits allows.\n")
-        }
+        Refusal::EpochFull => out.add("  There are as many commits as --max-commits allows.\n"),
         Refusal::TooWide => {
-            out.push_str("  An expression could pass 2^126, so it is not evaluated exactly.\n")
+            out.add("  An expression could pass 2^126, so it is not evaluated exactly.\n")
         }
         Refusal::OutsideClass => {
-            out.push_str("  A condition of a statement may hold no set function and no query.\n")
+            out.add("  A condition of a statement may hold no set function and no query.\n")
         }
         _ => add_value_sentence(refusal, out),
     }
 }
 
 /// Adds a fault of the values of a statement in a sentence.
-fn add_value_sentence(refusal: &Refusal, out: &mut String) -> Result<(), AllocError> {
+fn add_value_sentence(refusal: &Refusal, out: &mut Printout) {
     match refusal {
         Refusal::TypeMismatch => {
-            out.push_str("  The values do not fit the columns, in number or in type.\n")
+            out.add("  The values do not fit the columns, in number or in type.\n")
         }
         Refusal::NullNotAllowed { column } => {
-            write!(out, "  The column {column} takes no NULL.\n")
+            add_around("  The column ", column, " takes no NULL.\n", out)
         }
         Refusal::DuplicateKey { table, key } => {
-            write!(out, "  {table} has a row under the key {key} already:\n")
+            add_around("  ", table, " has a row under the key ", out);
+            add_around("", key, " already:\n", out);
         }
-        Refusal::KeyUpdate { column } => write!(
+        Refusal::KeyUpdate { column } => add_around(
+            "  ",
+            column,
+            " is the key, and an UPDATE leaves the key as it is.\n",
             out,
-            "  {column} is the key, and an UPDATE leaves the key as it is.\n"
         ),
         Refusal::OutOfRange {
             column,
             excess: Excess::Number,
-        } => write!(out, "  The number for {column} is beyond 10^15.\n"),
+        } => add_around("  The number for ", column, " is beyond 10^15.\n", out),
         Refusal::OutOfRange {
             column,
             excess: Excess::Text,
-        } => write!(out, "  The text for {column} is longer than the column.\n"),
-        _ => Ok(()),
+        } => add_around(
+            "  The text for ",
+            column,
+            " is longer than the column.\n",
+            out,
+        ),
+        _ => {}
     }
+}
+
+/// Adds a name or a value between two texts.
+fn add_around<D: Display + Copy>(front: &str, value: D, behind: &str, out: &mut Printout) {
+    out.add(front);
+    out.show(value);
+    out.add(behind);
 }

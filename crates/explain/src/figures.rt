@@ -1,11 +1,13 @@
 //! The figures of an assertion that would be false.
 
-use crate::conditions::add_condition;
-use crate::parts::{Part, Share, figure_of, lists_of, parts_of, rows_at};
-use crate::stories::{MOST_LINES, Story, add_left_out};
+use crate::conditions::{Scope, add_condition};
+use crate::parts::{Part, Share, count_in, push_lists, push_parts, push_rows};
+use crate::stories::{MOST_LINES, Story, add_count, add_left_out};
 use assertion::{Assertion, Form};
 use delta::View;
+use groups::Total;
 use history::{add_row, add_table, column_name};
+use printout::Printout;
 use std::alloc::{AllocError, Global};
 use table::{Aggregate, Cond, Expr, Row, SlotValue};
 use value::{Comparison, Root, Text, Value};
@@ -17,202 +19,231 @@ pub fn add_violation(
     view: &View,
     name: &Text,
     root: &Root,
-    out: &mut String,
+    out: &mut Printout,
 ) -> Result<(), AllocError> {
     let Some(place) = view.assertions().iter().position(|it| it.name == *name) else {
         return Ok(());
     };
-    add_rule(story, place, out)?;
     let Some(assertion) = view.assertions().get(place) else {
         return Ok(());
     };
-    add_root_line(view, &assertion.form, root, out)?;
-    let parts = parts_of(alloc, view, &assertion.form, root)?;
-    for (slot, part) in parts.iter().enumerate() {
-        add_figure(alloc, view, assertion, slot, *part, out)?;
-    }
-    for part in lists_of(alloc, view, &assertion.form, root)? {
-        add_rows(alloc, view, part, out)?;
-    }
-    Ok(())
+    add_rule(story, place, out);
+    add_root_line(view, &assertion.form, root, out);
+    add_figures(alloc, view, &assertion.form, root, out)?;
+    add_lists(alloc, view, &assertion.form, root, out)
 }
 
 /// Adds the text of an assertion, and where it stands.
-fn add_rule(story: Story<'_>, place: usize, out: &mut String) -> Result<(), AllocError> {
+fn add_rule(story: Story<'_>, place: usize, out: &mut Printout) {
     let Some(piece) = story.definitions.assertion(place) else {
-        return Ok(());
+        return;
     };
-    let line = story.definitions.line(story.defs, piece);
-    write!(out, "  the rule, line {line} of DEFS: ")?;
-    story.definitions.add_piece(story.defs, piece, out)?;
-    out.push_str("\n")
+    out.add("  the rule, line ");
+    out.show(story.definitions.line(story.defs, piece));
+    out.add(" of DEFS: ");
+    story.definitions.add_piece(story.defs, piece, out);
+    out.add("\n");
 }
 
 /// Adds where the assertion would be false.
-fn add_root_line(
-    view: &View,
-    form: &Form,
-    root: &Root,
-    out: &mut String,
-) -> Result<(), AllocError> {
+fn add_root_line(view: &View, form: &Form, root: &Root, out: &mut Printout) {
     match (form, root) {
         (Form::ByRow { table, .. }, Root::Of(key)) => {
-            write!(out, "  would be false at row {key} of ")?;
-            add_table(view, *table, out)?;
-            out.push_str(": ")?;
+            out.add("  would be false at row ");
+            out.show(key);
+            out.add(" of ");
+            add_table(view, *table, out);
+            out.add(": ");
             if let Some(row) = view.row(*table, key) {
-                add_row(row, out)?;
+                add_row(row, out);
             }
-            out.push_str("\n")
+            out.add("\n");
         }
         (Form::ByGroup { table, group, .. }, Root::Of(value)) => {
-            out.push_str("  would be false at ")?;
-            add_group(view, *table, *group, value, out)?;
-            out.push_str("\n")
+            out.add("  would be false at ");
+            add_group(view, *table, *group, " ", value, out);
+            out.add("\n");
         }
-        _ => out.push_str("  would be false as a whole\n"),
+        _ => out.add("  would be false as a whole\n"),
     }
 }
 
-/// Adds a group by its column and value.
+/// Adds a column, a sign and a value.
 fn add_group(
     view: &View,
     table: usize,
     column: usize,
+    sign: &str,
     value: &Value,
-    out: &mut String,
-) -> Result<(), AllocError> {
-    match column_name(view, table, column) {
-        Some(name) => write!(out, "{name} {value}"),
-        None => Ok(()),
+    out: &mut Printout,
+) {
+    if let Some(name) = column_name(view, table, column) {
+        out.show(name);
+        out.add(sign);
+        out.show(value);
     }
+}
+
+/// Adds the set functions of an assertion at a root.
+fn add_figures(
+    alloc: Global,
+    view: &View,
+    form: &Form,
+    root: &Root,
+    out: &mut Printout,
+) -> Result<(), AllocError> {
+    let mut parts = Vec::new(alloc);
+    push_parts(view, form, root, &mut parts)?;
+    for (slot, part) in parts.iter().enumerate() {
+        add_figure(alloc, view, form, slot, *part, out)?;
+    }
+    Ok(())
 }
 
 /// Adds a set function with what it would give at the root, and what is asked of it.
 fn add_figure(
     alloc: Global,
     view: &View,
-    assertion: &Assertion,
+    form: &Form,
     slot: usize,
     part: Part<'_>,
-    out: &mut String,
+    out: &mut Printout,
 ) -> Result<(), AllocError> {
-    let rows = rows_at(alloc, view, part)?;
-    let figure = figure_of(alloc, part.aggregate, rows.as_slice())?;
-    out.push_str("    ")?;
-    add_function(view, part.table, part.aggregate, out)?;
-    add_scope(view, &assertion.form, part, out)?;
-    out.push_str(" would be ")?;
-    add_slot_value(&figure, out)?;
-    add_demand(&assertion.form, slot, out)?;
-    out.push_str("\n")
+    let mut rows = Vec::new(alloc);
+    push_rows(alloc, view, part, &mut rows)?;
+    out.add("    ");
+    add_function(view, part.table, part.aggregate, out);
+    add_scope(view, form, part, out);
+    out.add(" would be ");
+    add_total(alloc, part.aggregate, rows.as_slice(), out)?;
+    add_demand(form, slot, out);
+    out.add("\n");
+    Ok(())
 }
 
 /// Adds a set function as SQL writes it.
-fn add_function(
-    view: &View,
-    table: usize,
-    aggregate: Aggregate,
-    out: &mut String,
-) -> Result<(), AllocError> {
-    let (name, column) = match aggregate {
-        Aggregate::CountRows => return out.push_str("COUNT(*)"),
-        Aggregate::Count(column) => ("COUNT", column),
-        Aggregate::Sum(column) => ("SUM", column),
-        Aggregate::Min(column) => ("MIN", column),
-        Aggregate::Max(column) => ("MAX", column),
+fn add_function(view: &View, table: usize, aggregate: Aggregate, out: &mut Printout) {
+    let (word, column) = match aggregate {
+        Aggregate::CountRows => return out.add("COUNT(*)"),
+        Aggregate::Count(column) => ("COUNT(", column),
+        Aggregate::Sum(column) => ("SUM(", column),
+        Aggregate::Min(column) => ("MIN(", column),
+        Aggregate::Max(column) => ("MAX(", column),
     };
-    match column_name(view, table, column) {
-        Some(column) => write!(out, "{name}({column})"),
-        None => Ok(()),
+    if let Some(name) = column_name(view, table, column) {
+        out.add(word);
+        out.show(name);
+        out.add(")");
     }
 }
 
 /// Adds which rows a set function is of.
-fn add_scope(view: &View, form: &Form, part: Part<'_>, out: &mut String) -> Result<(), AllocError> {
-    out.push_str(" of ")?;
+fn add_scope(view: &View, form: &Form, part: Part<'_>, out: &mut Printout) {
+    out.add(" of ");
     match (form, part.share) {
         (Form::ByGroup { .. }, Share::With { column, value }) => {
-            add_group(view, part.table, column, value, out)?;
+            add_group(view, part.table, column, " ", value, out)
         }
-        _ => add_linked(view, part, out)?,
+        _ => add_linked(view, part, out),
     }
     if matches!(part.filter, Cond::And(parts) if parts.is_empty()) {
-        return Ok(());
+        return;
     }
-    out.push_str(" where ")?;
-    add_condition(part.filter, view, part.table, part.row_around(view), out)
+    out.add(" where ");
+    let scope = Scope {
+        view,
+        table: part.table,
+        around: part.row_around(view),
+    };
+    add_condition(part.filter, &scope, out);
 }
 
 /// Adds a table, and the value that its rows have in the column that links them.
-fn add_linked(view: &View, part: Part<'_>, out: &mut String) -> Result<(), AllocError> {
-    add_table(view, part.table, out)?;
+fn add_linked(view: &View, part: Part<'_>, out: &mut Printout) {
+    add_table(view, part.table, out);
     match part.share {
-        Share::All => Ok(()),
-        Share::With { column, value } => match column_name(view, part.table, column) {
-            Some(name) => write!(out, " with {name} = {value}"),
-            None => Ok(()),
-        },
-        Share::None => out.push_str(" linked to NULL"),
+        Share::All => {}
+        Share::With { column, value } => {
+            out.add(" with ");
+            add_group(view, part.table, column, " = ", value, out);
+        }
+        Share::None => out.add(" linked to NULL"),
     }
 }
 
-/// Adds what a set function gives.
-fn add_slot_value(figure: &SlotValue, out: &mut String) -> Result<(), AllocError> {
+/// Adds what a set function gives of some rows.
+fn add_total(
+    alloc: Global,
+    aggregate: Aggregate,
+    rows: &[&Row],
+    out: &mut Printout,
+) -> Result<(), AllocError> {
+    let mut total = Total::new(alloc);
+    for row in rows {
+        count_in(&mut total, aggregate, row)?;
+    }
+    add_slot_value(&total.answer(aggregate)?, out);
+    Ok(())
+}
+
+fn add_slot_value(figure: &SlotValue, out: &mut Printout) {
     match figure {
-        SlotValue::Count(count) => write!(out, "{count}"),
-        SlotValue::Sum(None) => out.push_str("NULL"),
-        SlotValue::Sum(Some(sum)) => write!(out, "{sum}"),
-        SlotValue::Extreme(value) => write!(out, "{value}"),
+        SlotValue::Count(count) => out.show(count),
+        SlotValue::Sum(None) => out.add("NULL"),
+        SlotValue::Sum(Some(sum)) => out.show(sum),
+        SlotValue::Extreme(value) => out.show(value),
     }
 }
 
 /// Adds what the assertion asks of a slot, where its condition is one comparison of it with a literal.
-fn add_demand(form: &Form, slot: usize, out: &mut String) -> Result<(), AllocError> {
+fn add_demand(form: &Form, slot: usize, out: &mut Printout) {
     let (condition, is_forbidden) = match form {
         Form::ByRow { condition, .. } => (condition, true),
         Form::ByGroup { having, .. } => (having, true),
         Form::Single { condition, .. } => (condition, false),
     };
     match condition {
-        Cond::And(parts) => match parts.as_slice() {
-            [part] => add_demand_of(part, slot, is_forbidden, out),
-            _ => Ok(()),
-        },
+        Cond::And(parts) => {
+            if let [part] = parts.as_slice() {
+                add_demand_of(part, slot, is_forbidden, out);
+            }
+        }
         part => add_demand_of(part, slot, is_forbidden, out),
     }
 }
 
 /// Adds what a condition asks of a slot.
-fn add_demand_of(
-    part: &Cond,
-    slot: usize,
-    is_forbidden: bool,
-    out: &mut String,
-) -> Result<(), AllocError> {
+fn add_demand_of(part: &Cond, slot: usize, is_forbidden: bool, out: &mut Printout) {
     match part {
         Cond::Compare(comparison, Expr::Slot(at), Expr::Literal(value)) if *at == slot => {
-            let words = words_of(*comparison, is_forbidden);
-            write!(out, ", and {words} {value}")
+            add_bound(words_of(*comparison, is_forbidden), value, out)
         }
         Cond::Compare(comparison, Expr::Literal(value), Expr::Slot(at)) if *at == slot => {
-            let words = words_of(mirrored_comparison(*comparison), is_forbidden);
-            write!(out, ", and {words} {value}")
+            let turned = mirrored_comparison(*comparison);
+            add_bound(words_of(turned, is_forbidden), value, out)
         }
-        Cond::Exists(at) if *at == slot => out.push_str(if is_forbidden {
-            ", and must be 0"
-        } else {
-            ", and must not be 0"
-        }),
-        Cond::Not(inner) => match inner.get() {
-            Cond::Exists(at) if *at == slot => out.push_str(if is_forbidden {
-                ", and must not be 0"
-            } else {
-                ", and must be 0"
-            }),
-            _ => Ok(()),
-        },
-        _ => Ok(()),
+        Cond::Exists(at) if *at == slot => out.add(zero_words(is_forbidden)),
+        Cond::Not(inner) => {
+            if matches!(inner.get(), Cond::Exists(at) if *at == slot) {
+                out.add(zero_words(!is_forbidden));
+            }
+        }
+        _ => {}
+    }
+}
+
+/// Adds what must hold of a value.
+fn add_bound(words: &str, value: &Value, out: &mut Printout) {
+    out.add_all(&[", and ", words, " "]);
+    out.show(value);
+}
+
+/// That a count must be 0, or that it must not.
+fn zero_words(must_be: bool) -> &'static str {
+    if must_be {
+        ", and must be 0"
+    } else {
+        ", and must not be 0"
     }
 }
 
@@ -242,22 +273,39 @@ fn mirrored_comparison(comparison: Comparison) -> Comparison {
     }
 }
 
+/// Adds the lists of rows that count at a root.
+fn add_lists(
+    alloc: Global,
+    view: &View,
+    form: &Form,
+    root: &Root,
+    out: &mut Printout,
+) -> Result<(), AllocError> {
+    let mut lists = Vec::new(alloc);
+    push_lists(view, form, root, &mut lists)?;
+    for part in &lists {
+        add_rows(alloc, view, *part, out)?;
+    }
+    Ok(())
+}
+
 /// Adds the rows that have the root's value, ten at most.
 fn add_rows(
     alloc: Global,
     view: &View,
     part: Part<'_>,
-    out: &mut String,
+    out: &mut Printout,
 ) -> Result<(), AllocError> {
-    let rows = rows_at(alloc, view, part)?;
-    let count = rows.len();
-    write!(out, "    rows of ")?;
-    add_linked(view, part, out)?;
-    write!(out, " that count: {count}\n")?;
+    let mut rows = Vec::new(alloc);
+    push_rows(alloc, view, part, &mut rows)?;
+    out.add("    rows of ");
+    add_linked(view, part, out);
+    add_count(" that count: ", rows.len(), out);
     for row in rows.as_slice().iter().take(MOST_LINES) {
-        out.push_str("      ")?;
-        add_row(row, out)?;
-        out.push_str("\n")?;
+        out.add("      ");
+        add_row(row, out);
+        out.add("\n");
     }
-    add_left_out("      ", count, out)
+    add_left_out("      ", rows.len(), out);
+    Ok(())
 }

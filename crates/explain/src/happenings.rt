@@ -2,9 +2,10 @@
 
 use crate::conflicts::add_reader;
 use crate::faults::add_refusal;
-use crate::stories::{MOST_LINES, Story, add_left_out, add_snapshot, number_of};
+use crate::stories::{MOST_LINES, Story, add_count, add_left_out, add_number, add_snapshot};
 use alone::Answer;
-use history::{End, Happening, Read, Transaction, add_bytes, add_change, add_key};
+use history::{End, Happening, Read, Transaction, add_bytes};
+use printout::Printout;
 use report::write_reply;
 use std::alloc::{AllocError, Global};
 use syntax::ScriptLine;
@@ -15,7 +16,7 @@ pub fn add_event(
     alloc: Global,
     story: Story<'_>,
     event: usize,
-    out: &mut String,
+    out: &mut Printout,
 ) -> Result<(), AllocError> {
     let Some(script_line) = story.history.lines.as_slice().get(event) else {
         return Ok(());
@@ -23,34 +24,40 @@ pub fn add_event(
     let Some(happening) = story.history.events.as_slice().get(event) else {
         return Ok(());
     };
-    add_heading(alloc, story, event, script_line, happening, out)?;
+    add_heading(story, event, out);
+    add_answer(alloc, script_line, &happening.answer, out)?;
     match &happening.answer {
         Answer::Refused(refusal) => add_refusal(alloc, story, event, happening, refusal, out)?,
         _ => add_done(alloc, story, event, happening, out)?,
     }
-    out.push_str("\n")
+    out.add("\n");
+    Ok(())
 }
 
-/// Adds an event's number, line and text, and its answer.
-fn add_heading(
+/// Adds an event's number, line and text.
+fn add_heading(story: Story<'_>, event: usize, out: &mut Printout) {
+    add_number("event ", event, out);
+    out.add(", line ");
+    out.show(story.events.line(story.script, event));
+    out.add(": ");
+    story.events.add_piece(story.script, event, out);
+    out.add("\n");
+}
+
+/// Adds an event's answer.
+fn add_answer(
     alloc: Global,
-    story: Story<'_>,
-    event: usize,
     script_line: &ScriptLine,
-    happening: &Happening,
-    out: &mut String,
+    answer: &Answer,
+    out: &mut Printout,
 ) -> Result<(), AllocError> {
-    let number = number_of(event);
-    let line = story.events.line(story.script, event);
-    write!(out, "event {number}, line {line}: ")?;
-    story.events.add_piece(story.script, event, out)?;
-    out.push_str("\n")?;
     let mut line = Vec::new(alloc);
     // (a list of bytes takes all bytes for which there is memory)
-    if write_reply(script_line, &happening.answer, &mut line).is_err() {
+    if write_reply(script_line, answer, &mut line).is_err() {
         return Err(AllocError);
     }
-    add_bytes(line.as_slice(), out)
+    add_bytes(line.as_slice(), out);
+    Ok(())
 }
 
 /// Adds what an event that was not refused rests on.
@@ -59,37 +66,33 @@ fn add_done(
     story: Story<'_>,
     event: usize,
     happening: &Happening,
-    out: &mut String,
+    out: &mut Printout,
 ) -> Result<(), AllocError> {
     let Some(it) = story.transaction_of(event) else {
         return Ok(());
     };
-    add_standing(story, event, it, out)?;
+    let is_commit = event == it.ended && it.end == End::Committed;
+    add_standing(story, it, is_commit, out);
     add_reads(alloc, story, event, it, out)?;
-    if event == it.ended && it.end == End::Committed {
-        add_changes(story, "  its net change: ", it.changes.as_slice(), out)
+    if is_commit {
+        add_changes(story, "  its net change: ", it.changes.as_slice(), out);
     } else {
-        add_changes(story, "  changed rows: ", happening.changes.as_slice(), out)
+        add_changes(story, "  changed rows: ", happening.changes.as_slice(), out);
     }
+    Ok(())
 }
 
 /// Adds in which transaction an event stands; of a COMMIT its place in the serial order too.
-fn add_standing(
-    story: Story<'_>,
-    event: usize,
-    it: &Transaction,
-    out: &mut String,
-) -> Result<(), AllocError> {
-    let begun = number_of(it.begun);
-    write!(out, "  in the transaction of event {begun}, ")?;
-    add_snapshot(it, out)?;
-    out.push_str("\n")?;
-    if event != it.ended || it.end != End::Committed {
-        return Ok(());
+fn add_standing(story: Story<'_>, it: &Transaction, is_commit: bool, out: &mut Printout) {
+    add_number("  in the transaction of event ", it.begun, out);
+    out.add(", ");
+    add_snapshot(it, out);
+    out.add("\n");
+    if !is_commit {
+        return;
     }
-    match story.history.place(it.number) {
-        Some(place) => write!(out, "  place in the serial order: {place}\n"),
-        None => Ok(()),
+    if let Some(place) = story.history.place(it.number) {
+        add_count("  place in the serial order: ", place, out);
     }
 }
 
@@ -99,48 +102,42 @@ fn add_reads(
     story: Story<'_>,
     event: usize,
     it: &Transaction,
-    out: &mut String,
+    out: &mut Printout,
 ) -> Result<(), AllocError> {
-    let reads = reads_of(alloc, event, it)?;
-    let count = reads.len();
-    write!(out, "  read: {count}\n")?;
+    let mut reads = Vec::new(alloc);
+    push_reads(event, it, &mut reads)?;
+    add_count("  read: ", reads.len(), out);
     for read in reads.as_slice().iter().take(MOST_LINES) {
-        out.push_str("    ")?;
-        add_key(&story.history.loaded, &read.key, out)?;
-        add_reader(story, read.reader, out)?;
-        out.push_str("\n")?;
+        out.add("    ");
+        story.history.add_key(&read.key, out);
+        add_reader(story, read.reader, out);
+        out.add("\n");
     }
-    add_left_out("    ", count, out)
+    add_left_out("    ", reads.len(), out);
+    Ok(())
 }
 
-/// What an event read, each key once for each that read it.
-fn reads_of<'a>(
-    alloc: Global,
+/// Lists what an event read, each key once for each that read it.
+fn push_reads<'a>(
     event: usize,
     it: &'a Transaction,
-) -> Result<Vec<&'a Read>, AllocError> {
-    let mut reads: Vec<&'a Read> = Vec::new(alloc);
+    reads: &mut Vec<&'a Read>,
+) -> Result<(), AllocError> {
     for read in &it.reads {
         if read.event == event && !reads.iter().any(|other| read.is_again(other)) {
             reads.push(read)?;
         }
     }
-    Ok(reads)
+    Ok(())
 }
 
 /// Adds changes of rows, ten at most.
-fn add_changes(
-    story: Story<'_>,
-    front: &str,
-    changes: &[Change],
-    out: &mut String,
-) -> Result<(), AllocError> {
-    let count = changes.len();
-    write!(out, "{front}{count}\n")?;
+fn add_changes(story: Story<'_>, front: &str, changes: &[Change], out: &mut Printout) {
+    add_count(front, changes.len(), out);
     for change in changes.iter().take(MOST_LINES) {
-        out.push_str("    ")?;
-        add_change(&story.history.loaded, change, out)?;
-        out.push_str("\n")?;
+        out.add("    ");
+        story.history.add_change(change, out);
+        out.add("\n");
     }
-    add_left_out("    ", count, out)
+    add_left_out("    ", changes.len(), out);
 }

@@ -5,7 +5,7 @@
 //! values that the contracts of the layers below speak of:
 //!
 //! - of an assertion that would be false: the least root that the refusal names, what each set function of the
-//!   assertion gives there (`groups::Totals`), and the rows that it counts (`delta::View::rows`, `table::passes`), on
+//!   assertion gives there (`groups::Total`), and the rows that it counts (`delta::View::rows`, `table::passes`), on
 //!   the tables as the refused statement would have left them;
 //! - of a commit in the way: the rows that both changed, by the net changes at COMMIT;
 //! - of a dangerous triple: for each of its two conflicts the keys that the one read and the changes of the other that

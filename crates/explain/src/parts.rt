@@ -7,11 +7,11 @@ ghost use Rattle.value.specs.Ordered.{HoldsOf};
 
 use assertion::{Form, Link, Query};
 use delta::View;
-use groups::{Member, Totals};
+use groups::Total;
 use mvrows::Rows;
 use siread::is_same;
 use std::alloc::{AllocError, Global};
-use table::{Aggregate, Cond, Row, SlotValue, Slots, is_bounded, keeps, passes, value_at};
+use table::{Aggregate, Cond, Row, Slots, is_bounded, keeps, passes};
 use value::{Root, Value};
 
 /// Which rows of a table go to a root.
@@ -76,14 +76,13 @@ impl<'a> Part<'a> {
     }
 }
 
-/// The set functions of an assertion at a root, in the order of the slots of its condition.
-pub fn parts_of<'a>(
-    alloc: Global,
+/// Lists the set functions of an assertion at a root, in the order of the slots of its condition.
+pub fn push_parts<'a>(
     view: &'a View,
     form: &'a Form,
     root: &'a Root,
-) -> Result<Vec<Part<'a>>, AllocError> {
-    let mut parts = Vec::new(alloc);
+    parts: &mut Vec<Part<'a>>,
+) -> Result<(), AllocError> {
     match form {
         Form::ByRow { table, queries, .. } => {
             for query in queries.as_slice() {
@@ -114,7 +113,7 @@ pub fn parts_of<'a>(
             }
         }
     }
-    Ok(parts)
+    Ok(())
 }
 
 /// Where the row of a root stands.
@@ -152,14 +151,14 @@ fn group_share(column: usize, root: &Root) -> Share<'_> {
     }
 }
 
-/// The lists of rows that an assertion looks at, at a root: of a group one, however many set functions it has, else one
-/// for each.
-pub fn lists_of<'a>(
-    alloc: Global,
+/// Lists the rows that an assertion looks at, at a root: of a group one part, however many set functions it has, else
+/// one for each.
+pub fn push_lists<'a>(
     view: &'a View,
     form: &'a Form,
     root: &'a Root,
-) -> Result<Vec<Part<'a>>, AllocError> {
+    lists: &mut Vec<Part<'a>>,
+) -> Result<(), AllocError> {
     let Form::ByGroup {
         table,
         filter,
@@ -167,9 +166,8 @@ pub fn lists_of<'a>(
         ..
     } = form
     else {
-        return parts_of(alloc, view, form, root);
+        return push_parts(view, form, root, lists);
     };
-    let mut lists = Vec::new(alloc);
     lists.push(Part {
         aggregate: Aggregate::CountRows,
         table: *table,
@@ -177,39 +175,46 @@ pub fn lists_of<'a>(
         share: group_share(*group, root),
         around: None,
     })?;
-    Ok(lists)
+    Ok(())
 }
 
-/// The rows of a table that a condition keeps and that go to the root.
-pub fn rows_at<'a>(
+/// Lists the rows of a table that a condition keeps and that go to the root.
+pub fn push_rows<'a>(
     alloc: Global,
     view: &'a View,
     part: Part<'_>,
-) -> Result<Vec<&'a Row>, AllocError> {
+    found: &mut Vec<&'a Row>,
+) -> Result<(), AllocError> {
     if part.table >= view.catalog().len() || !is_bounded(part.filter, &[]) {
-        return Ok(Vec::new(alloc));
+        return Ok(());
     }
-    kept_rows(alloc, view.rows(part.table), part, part.row_around(view))
+    push_kept(
+        alloc,
+        view.rows(part.table),
+        part,
+        part.row_around(view),
+        found,
+    )
 }
 
 /// The same, of these rows, with the row around.
-fn kept_rows<'a>(
+fn push_kept<'a>(
     alloc: Global,
     rows: &'a Rows,
     part: Part<'_>,
     around: Option<&Row>,
-) -> Result<Vec<&'a Row>, AllocError>
+    found: &mut Vec<&'a Row>,
+) -> Result<(), AllocError>
     requires bounded { IsTrue (is_bounded [] part.filter.now) }
     requires small { All IsSmallRow rows.now }
     requires around_small { HoldsOf IsSmallRow (option_copied around) }
 {
-    let mut found = Vec::new(alloc);
     for row in rows.iter() {
         if is_among(row, part.share) && is_kept(alloc, part.filter, row, around)? {
             found.push(row)?;
         }
     }
-    Ok(found)
+    Ok(())
 }
 
 /// Whether a condition keeps a row, beside the one around it.
@@ -244,30 +249,23 @@ fn is_among(row: &Row, share: Share<'_>) -> bool {
     }
 }
 
-/// What a set function gives of some rows.
-pub fn figure_of(
-    alloc: Global,
-    aggregate: Aggregate,
-    rows: &[&Row],
-) -> Result<SlotValue, AllocError> {
-    let mut totals = Totals::new(alloc);
-    for row in rows {
-        let member = Member {
-            group: Value::Null,
-            value: looked_at(aggregate, row)?,
-        };
-        totals = totals.with(aggregate, &Some(member), &None)?;
-    }
-    totals.answer(&Value::Null, aggregate)
+/// Counts a row in with those that a set function is of so far.
+pub fn count_in(total: &mut Total, aggregate: Aggregate, row: &Row) -> Result<(), AllocError> {
+    let counted = match column_of(aggregate).and_then(|column| row.values().get(column)) {
+        Some(value) => total.with(aggregate, value),
+        None => total.with(aggregate, &Value::Null),
+    };
+    *total = counted?;
+    Ok(())
 }
 
-/// What a set function looks at in a row.
-fn looked_at(aggregate: Aggregate, row: &Row) -> Result<Value, AllocError> {
+/// The column at which a set function looks.
+fn column_of(aggregate: Aggregate) -> Option<usize> {
     match aggregate {
-        Aggregate::CountRows => Ok(Value::Null),
+        Aggregate::CountRows => None,
         Aggregate::Count(column)
         | Aggregate::Sum(column)
         | Aggregate::Min(column)
-        | Aggregate::Max(column) => value_at(row, column),
+        | Aggregate::Max(column) => Some(column),
     }
 }

@@ -1,8 +1,7 @@
 //! What is explained, and the lines of an explanation as they grow.
 
 use history::{History, Source, Transaction};
-use std::alloc::AllocError;
-use value::Text;
+use printout::Printout;
 
 /// Lists are cut after so many lines.
 pub const MOST_LINES: usize = 10;
@@ -18,19 +17,6 @@ pub struct Story<'a> {
 }
 
 impl<'a> Story<'a> {
-    /// The name of a session.
-    pub fn session(self, session: usize) -> Option<&'a Text> {
-        self.history.sessions.as_slice().get(session)
-    }
-
-    /// The name of an assertion, by its place in the order of creation.
-    pub fn assertion(self, place: usize) -> Option<&'a Text> {
-        match self.history.loaded.assertions().get(place) {
-            Some(assertion) => Some(&assertion.name),
-            None => None,
-        }
-    }
-
     /// The transaction in which an event stands.
     pub fn transaction_of(self, event: usize) -> Option<&'a Transaction> {
         let happening = self.history.events.as_slice().get(event)?;
@@ -42,25 +28,34 @@ impl<'a> Story<'a> {
 }
 
 /// Adds what a transaction sees, and whether it is read only.
-pub fn add_snapshot(it: &Transaction, out: &mut String) -> Result<(), AllocError> {
-    let snapshot = it.snapshot;
-    write!(out, "snapshot {snapshot}")?;
+pub fn add_snapshot(it: &Transaction, out: &mut Printout) {
+    out.add("snapshot ");
+    out.show(it.snapshot);
     if it.read_only {
-        out.push_str(", read only")?;
+        out.add(", read only");
     }
-    Ok(())
 }
 
-/// The number of an event, counted from 1.
-pub fn number_of(event: usize) -> usize {
-    event.saturating_add(1)
+/// Adds an event by its number, which is counted from 1, behind a text.
+pub fn add_number(front: &str, event: usize, out: &mut Printout) {
+    out.add(front);
+    out.show(event.saturating_add(1));
+}
+
+/// Adds how many items a list has, behind a text, and ends the line.
+pub fn add_count(front: &str, count: usize, out: &mut Printout) {
+    out.add(front);
+    out.show(count);
+    out.add("\n");
 }
 
 /// Adds how many lines of a list are left out, if some are.
-pub fn add_left_out(front: &str, count: usize, out: &mut String) -> Result<(), AllocError> {
+pub fn add_left_out(front: &str, count: usize, out: &mut Printout) {
     let left = count.saturating_sub(MOST_LINES);
-    if left == 0 {
-        return Ok(());
+    if left > 0 {
+        out.add(front);
+        out.add("and ");
+        out.show(left);
+        out.add(" more\n");
     }
-    write!(out, "{front}and {left} more\n")
 }

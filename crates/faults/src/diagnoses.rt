@@ -25,35 +25,37 @@ pub struct Diagnosis {
     /// What is wrong, in a few words.
     pub what: String,
     pub at: At,
-    /// What may stand there, or how to say it: a sentence or two each.
-    pub advice: Vec<String>,
+    /// What may stand there, or how to say it: lines of a sentence or two each.
+    pub advice: String,
 }
 
 impl Diagnosis {
-    /// Without advice yet.
-    pub fn new(alloc: Global, which: Which, number: u8, what: String, at: At) -> Diagnosis {
+    /// Of this text, of which nothing is said yet.
+    pub fn new(alloc: Global, which: Which) -> Diagnosis {
         Diagnosis {
             which,
-            number,
-            what,
-            at,
-            advice: Vec::new(alloc),
+            number: 0,
+            what: String::new(alloc),
+            at: At::Nowhere,
+            advice: String::new(alloc),
         }
     }
 
-    /// With one more piece of advice.
-    pub fn with(self, advice: String) -> Result<Diagnosis, AllocError> {
-        let mut more = self;
-        more.advice.push(advice)?;
-        Ok(more)
+    /// Says which fault it is, and where.
+    pub fn place(&mut self, number: u8, at: At) {
+        self.number = number;
+        self.at = at;
     }
 
-    /// With one more piece of advice, if there is one.
-    pub fn with_some(self, advice: Option<String>) -> Result<Diagnosis, AllocError> {
-        match advice {
-            Some(advice) => self.with(advice),
-            None => Ok(self),
-        }
+    /// Says what is wrong.
+    pub fn say(&mut self, what: &str) -> Result<(), AllocError> {
+        self.what.push_str(what)
+    }
+
+    /// Adds a line of advice.
+    pub fn advise(&mut self, sentence: &str) -> Result<(), AllocError> {
+        self.advice.push_str(sentence)?;
+        self.advice.push_str("\n")
     }
 }
 

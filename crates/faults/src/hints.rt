@@ -2,7 +2,7 @@
 
 use crate::expected::Which;
 use crate::near::Nearest;
-use crate::places::{between, bytes_from, printable};
+use crate::places::{between, bytes_from, push_printable};
 use crate::words::{WORDS, is_reserved};
 use std::alloc::{AllocError, Global};
 use token::{Kind, Token};
@@ -48,7 +48,7 @@ impl<'a> Stop<'a> {
     }
 
     /// Whether a token of this kind may stand there.
-    fn may_be(&self, kind: Kind) -> bool {
+    pub fn may_be(&self, kind: Kind) -> bool {
         self.kinds.contains(&kind)
     }
 }
@@ -212,36 +212,39 @@ const ELSEWHERE: [(&str, &str); 45] = [
     ("WRITE", "BEGIN alone begins a transaction that may write."),
 ];
 
-/// What was most likely meant, if that can be told.
-pub fn hint(alloc: Global, stop: Stop) -> Result<Option<String>, AllocError> {
+/// A line of what was most likely meant, if that can be told.
+pub fn push_hint(alloc: Global, stop: &Stop, advice: &mut String) -> Result<(), AllocError> {
     if stop.token.kind == Kind::Bad {
-        return Ok(Some(bad_token(alloc, stop)?));
+        return push_bad_token(stop, advice);
     }
-    if let Some(sentence) = elsewhere(alloc, stop)? {
-        return Ok(Some(sentence));
+    if let Some(sentence) = elsewhere(stop).or(by_kind(stop)) {
+        return push_sentence(sentence, advice);
     }
-    if let Some(sentence) = by_kind(stop) {
-        return Ok(Some(String::from_str(alloc, sentence)?));
-    }
-    if let Some(sentence) = near_word(alloc, stop)? {
-        return Ok(Some(sentence));
+    if stop.token.kind == Kind::Name {
+        return push_near_word(alloc, stop, advice);
     }
     if is_reserved(stop.token.kind) && stop.may_be(Kind::Name) {
-        let spelled = printable(alloc, stop.bytes())?;
-        return Ok(Some(format!(in alloc;
-            "{spelled} is a reserved word and can be no name: take another one."
-        )?));
+        push_printable(stop.bytes(), advice)?;
+        return push_sentence(
+            " is a reserved word and can be no name: take another one.",
+            advice,
+        );
     }
-    Ok(None)
+    Ok(())
+}
+
+fn push_sentence(sentence: &str, advice: &mut String) -> Result<(), AllocError> {
+    advice.push_str(sentence)?;
+    advice.push_str("\n")
 }
 
 /// By what stands there and before it.
-fn by_kind(stop: Stop) -> Option<&'static str> {
+fn by_kind(stop: &Stop) -> Option<&'static str> {
     by_sign(stop).or(by_beginning(stop)).or(by_list(stop))
 }
 
 /// Of numbers, texts, signs and NULL.
-fn by_sign(stop: Stop) -> Option<&'static str> {
+fn by_sign(stop: &Stop) -> Option<&'static str> {
     match (stop.token.kind, stop.last()) {
         (_, Kind::Text) if stop.is_glued() => {
             Some("The text before it ends here. A quote inside a text is written twice: 'O''HARA'.")
@@ -263,7 +266,7 @@ fn by_sign(stop: Stop) -> Option<&'static str> {
 }
 
 /// Of what begins a definition, an event or a rule.
-fn by_beginning(stop: Stop) -> Option<&'static str> {
+fn by_beginning(stop: &Stop) -> Option<&'static str> {
     match (stop.which, stop.token.kind, stop.last()) {
         (Which::Defs, Kind::Create | Kind::Insert, _) if stop.may_be(Kind::Semicolon) => {
             Some("The definition before it wants its semicolon.")
@@ -304,7 +307,7 @@ fn is_of_sessions(kind: Kind) -> bool {
 }
 
 /// Of what stands behind a comma, or of the comma itself.
-fn by_list(stop: Stop) -> Option<&'static str> {
+fn by_list(stop: &Stop) -> Option<&'static str> {
     match (stop.token.kind, stop.last()) {
         (Kind::Primary, Kind::Comma) => {
             Some("PRIMARY KEY stands behind the type of its column: ID INTEGER PRIMARY KEY.")
@@ -335,102 +338,117 @@ fn is_behind(word: Kind, before: &[Token]) -> bool {
     false
 }
 
-/// A word of SQL that the language does not have: the token itself, or the name before a parenthesis.
-fn elsewhere(alloc: Global, stop: Stop) -> Result<Option<String>, AllocError> {
-    let here = upper(alloc, stop.bytes())?;
-    let last = match stop.before.last() {
-        Some(token) if stop.token.kind == Kind::Open => upper(
-            alloc,
-            between(stop.text, token.start, token.end),
-        )?,
-        _ => String::new(alloc),
+/// Of a word of SQL that the language does not have: the token itself, or the name before a parenthesis.
+fn elsewhere(stop: &Stop) -> Option<&'static str> {
+    let word = match stop.before.last() {
+        Some(token) if stop.token.kind == Kind::Open => between(stop.text, token.start, token.end),
+        _ => stop.bytes(),
     };
-    for (word, sentence) in &ELSEWHERE {
-        if here.as_str() == *word || last.as_str() == *word {
-            return Ok(Some(String::from_str(alloc, sentence)?));
+    for (name, sentence) in &ELSEWHERE {
+        if word.eq_ignore_ascii_case(name.as_bytes()) {
+            return Some(sentence);
         }
     }
-    Ok(None)
+    None
 }
 
 /// Bytes as a word in upper case.
-fn upper(alloc: Global, bytes: &[u8]) -> Result<String, AllocError> {
-    let mut word = String::new(alloc);
+fn push_upper(bytes: &[u8], word: &mut String) -> Result<(), AllocError> {
     if bytes.len() <= 128 {
         for byte in bytes {
             word.push(char::from(byte.to_ascii_uppercase()))?;
         }
     }
-    Ok(word)
+    Ok(())
 }
 
-/// A reserved word that may stand there and is near to the word that does.
-fn near_word(alloc: Global, stop: Stop) -> Result<Option<String>, AllocError> {
-    if stop.token.kind != Kind::Name {
-        return Ok(None);
+/// A reserved word that may stand there and is near to the name that does.
+fn push_near_word(alloc: Global, stop: &Stop, advice: &mut String) -> Result<(), AllocError> {
+    let mut here = String::new(alloc);
+    push_upper(stop.bytes(), &mut here)?;
+    match nearest_word(alloc, stop, here.as_str())? {
+        Some(word) => writeln!(advice, "Was {word} meant?"),
+        None => Ok(()),
     }
-    let here = upper(alloc, stop.bytes())?;
-    let mut nearest = Nearest::new(alloc, here.as_str())?;
+}
+
+/// The reserved word that may stand there and is nearest to a word.
+fn nearest_word<'a>(
+    alloc: Global,
+    stop: &Stop,
+    here: &'a str,
+) -> Result<Option<&'a str>, AllocError> {
+    let mut nearest = Nearest::new(here);
     for (kind, spelling) in &WORDS {
         if is_reserved(*kind) && stop.may_be(*kind) {
             nearest.offer(alloc, spelling)?;
         }
     }
-    match nearest.found() {
-        Some(word) => Ok(Some(format!(in alloc; "Was {word} meant?")?)),
-        None => Ok(None),
-    }
+    Ok(nearest.found())
 }
 
 /// Why no token begins there.
-fn bad_token(alloc: Global, stop: Stop) -> Result<String, AllocError> {
+fn push_bad_token(stop: &Stop, advice: &mut String) -> Result<(), AllocError> {
     let bytes = bytes_from(stop.text, stop.token.start);
     let first = bytes.first().copied().unwrap_or(0);
-    match first {
-        b'\'' => text_fault(alloc, bytes),
-        b'0'..=b'9' => String::from_str(alloc, "A number is at most 1000000000000000 (10^15)."),
-        b'a'..=b'z' | b'A'..=b'Z' => String::from_str(alloc, "A name has at most 128 letters."),
-        b'"' | b'`' | b'[' => String::from_str(
-            alloc,
-            "Names stand without quotes, and texts in single ones: 'KIM'.",
-        ),
-        b'!' => String::from_str(alloc, "Not equal is written <>."),
-        b'/' | b'%' => String::from_str(
-            alloc,
-            "There is no division. Multiply the other side of the comparison. A comment begins with --.",
-        ),
-        b'|' => String::from_str(alloc, "Texts are compared whole, and not put together."),
-        b'#' => String::from_str(
-            alloc,
-            "A comment begins with -- and goes to the end of its line.",
-        ),
-        b'_' => String::from_str(alloc, "A name begins with a letter."),
-        _ => format!(in alloc; "The byte {first:#04x} stands in comments alone."),
+    if first == b'\'' {
+        return push_text_fault(bytes_from(bytes, 1), advice);
+    }
+    match unknown_sign(first) {
+        Some(sentence) => push_sentence(sentence, advice),
+        None => writeln!(advice, "The byte {first:#04x} stands in comments alone."),
     }
 }
 
-/// Why a quote opens no text.
-fn text_fault(alloc: Global, bytes: &[u8]) -> Result<String, AllocError> {
-    for byte in bytes_from(bytes, 1) {
-        if *byte == b'\'' {
-            break;
+/// Why no token begins with a byte that is no quote.
+fn unknown_sign(first: u8) -> Option<&'static str> {
+    match first {
+        b'0'..=b'9' => Some("A number is at most 1000000000000000 (10^15)."),
+        b'a'..=b'z' | b'A'..=b'Z' => Some("A name has at most 128 letters."),
+        b'"' | b'`' | b'[' => {
+            Some("Names stand without quotes, and texts in single ones: 'KIM'.")
         }
-        if *byte == b'\n' {
-            return String::from_str(
-                alloc,
-                "The text that this quote opens has no end in its line. A quote inside a text is \
-                 written twice: 'O''HARA'.",
-            );
-        }
-        if !(b' ' <= *byte && *byte <= b'~') {
-            return format!(in alloc;
-                "A text holds letters, digits and signs of ASCII alone (0x20 to 0x7e), and this one \
-                 has the byte {byte:#04x}."
-            );
-        }
+        b'!' => Some("Not equal is written <>."),
+        b'/' | b'%' => Some(
+            "There is no division. Multiply the other side of the comparison. A comment begins with --.",
+        ),
+        b'|' => Some("Texts are compared whole, and not put together."),
+        b'#' => Some("A comment begins with -- and goes to the end of its line."),
+        b'_' => Some("A name begins with a letter."),
+        _ => None,
     }
-    String::from_str(
-        alloc,
-        "The text that this quote opens has no end. A quote inside a text is written twice: 'O''HARA'.",
-    )
+}
+
+/// Why the bytes behind a quote are no text.
+fn push_text_fault(bytes: &[u8], advice: &mut String) -> Result<(), AllocError> {
+    match bytes.iter().find(|byte| !is_of_text(**byte)) {
+        Some(b'\n') => push_sentence(
+            "The text that this quote opens has no end in its line. A quote inside a text is \
+             written twice: 'O''HARA'.",
+            advice,
+        ),
+        Some(byte) if *byte != b'\'' => writeln!(
+            advice,
+            "A text holds no control characters, and this one has the byte {byte:#04x}."
+        ),
+        _ if is_ill_formed(bytes) => push_sentence(
+            "The text that this quote opens is ill-formed UTF-8.",
+            advice,
+        ),
+        _ => push_sentence(
+            "The text that this quote opens has no end. A quote inside a text is written twice: 'O''HARA'.",
+            advice,
+        ),
+    }
+}
+
+/// Whether the first line of some bytes is ill-formed UTF-8.
+fn is_ill_formed(bytes: &[u8]) -> bool {
+    let line = bytes.split(|byte| *byte == b'\n').next().unwrap_or(bytes);
+    str::from_utf8(line).is_err()
+}
+
+/// Whether a byte goes on a text that a quote has opened.
+fn is_of_text(byte: u8) -> bool {
+    byte >= b' ' && byte != 0x7F && byte != b'\''
 }

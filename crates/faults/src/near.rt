@@ -6,52 +6,49 @@ use strsim::damerau_levenshtein;
 use value::Text;
 
 /// The word that was not found, and the nearest of those that were offered so far.
-#[derive(Drop)]
-pub struct Nearest {
-    word: String,
-    found: Option<String>,
+#[derive(Clone, Copy)]
+pub struct Nearest<'a> {
+    word: &'a str,
+    found: Option<&'a str>,
     distance: usize,
 }
 
-impl Nearest {
+impl<'a> Nearest<'a> {
     /// None was offered yet. A word is near where at most a third of its letters differ, and one more.
-    pub fn new(alloc: Global, word: &str) -> Result<Nearest, AllocError> {
-        Ok(Nearest {
-            word: String::from_str(alloc, word)?,
+    pub fn new(word: &'a str) -> Nearest<'a> {
+        Nearest {
+            word,
             found: None,
             distance: (word.len() / 3).saturating_add(2),
-        })
+        }
     }
 
     /// Of a name.
-    pub fn of(alloc: Global, name: &Text) -> Result<Nearest, AllocError> {
-        Nearest::new(alloc, str::from_utf8(name.as_bytes()).unwrap_or(""))
+    pub fn of(name: &'a Text) -> Nearest<'a> {
+        Nearest::new(str::from_utf8(name.as_bytes()).unwrap_or(""))
     }
 
     /// Offers one more word.
-    pub fn offer(&mut self, alloc: Global, word: &str) -> Result<(), AllocError> {
+    pub fn offer(&mut self, alloc: Global, word: &'a str) -> Result<(), AllocError> {
         // (a table of all pairs of letters: names of the program are short)
         if word.len() > 128 {
             return Ok(());
         }
-        let distance = damerau_levenshtein(alloc, self.word.as_str(), word)?;
+        let distance = damerau_levenshtein(alloc, self.word, word)?;
         if distance > 0 && distance < self.distance {
             self.distance = distance;
-            self.found = Some(String::from_str(alloc, word)?);
+            self.found = Some(word);
         }
         Ok(())
     }
 
     /// Offers one more name.
-    pub fn offer_name(&mut self, alloc: Global, name: &Text) -> Result<(), AllocError> {
+    pub fn offer_name(&mut self, alloc: Global, name: &'a Text) -> Result<(), AllocError> {
         self.offer(alloc, str::from_utf8(name.as_bytes()).unwrap_or(""))
     }
 
     /// The nearest of them, if one is near.
-    pub fn found(&self) -> Option<&str> {
-        match &self.found {
-            Some(found) => Some(found.as_str()),
-            None => None,
-        }
+    pub fn found(&self) -> Option<&'a str> {
+        self.found
     }
 }

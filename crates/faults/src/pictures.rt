@@ -1,8 +1,8 @@
 //! A fault as a person sees it: what is wrong, the line with a caret under the byte, and what to do.
 
 use crate::diagnoses::{At, Diagnosis};
-use crate::places::{Place, Span, between, place_of, printable, width};
-use std::alloc::{AllocError, Global};
+use crate::places::{Place, Span, between, bytes_within, place_of, push_printable, width};
+use std::alloc::AllocError;
 
 /// How a picture is coloured.
 #[derive(Clone, Copy, Debug, PartialEq, Eq)]
@@ -46,7 +46,8 @@ impl Colour {
     }
 }
 
-/// At most so many bytes of a line are shown before the byte in question, and so many from it on.
+/// In so many columns a line is shown before the byte in question, and in so many from it on. (A wide character that
+/// begins before the first of them is shown too.)
 const BEFORE: usize = 60;
 
 const BEHIND: usize = 60;
@@ -54,79 +55,57 @@ const BEHIND: usize = 60;
 /// At most so many lines of a definition are shown.
 const LINES: usize = 6;
 
-/// The picture of a fault in a text that has this name.
-pub fn picture(
-    alloc: Global,
-    name: &str,
-    bytes: &[u8],
+/// A text with the name that it is shown by.
+#[derive(Clone, Copy)]
+pub struct NamedText<'a> {
+    pub name: &'a str,
+    pub bytes: &'a [u8],
+}
+
+/// Draws the picture of a fault in a text.
+pub fn draw(
+    text: NamedText,
     diagnosis: &Diagnosis,
     colour: Colour,
-) -> Result<String, AllocError> {
-    let mut shown = String::new(alloc);
-    let (red, bold, blue, end) = (colour.red(), colour.bold(), colour.blue(), colour.end());
+    shown: &mut String,
+) -> Result<(), AllocError> {
+    draw_what(diagnosis, colour, shown)?;
+    match diagnosis.at {
+        At::Bytes(span) => draw_line(text, span, colour, shown)?,
+        At::Definition(span) => draw_definition(text, span, colour, shown)?,
+        At::Nowhere => draw_name(text.name, colour, shown)?,
+    }
+    draw_advice(diagnosis.advice.as_str(), colour, shown)
+}
+
+/// The fault's number, and what is wrong.
+fn draw_what(diagnosis: &Diagnosis, colour: Colour, shown: &mut String) -> Result<(), AllocError> {
+    let (red, bold, end) = (colour.red(), colour.bold(), colour.end());
     let number = diagnosis.number;
     let what = diagnosis.what.as_str();
-    writeln!(shown, "{red}fault {number}{end}{bold}: {what}{end}")?;
-    match diagnosis.at {
-        At::Bytes(span) => push_line(alloc, &mut shown, name, bytes, span, colour)?,
-        At::Definition(span) => push_definition(alloc, &mut shown, name, bytes, span, colour)?,
-        At::Nowhere => writeln!(shown, "  {blue}-->{end} {name}")?,
-    }
-    for advice in &diagnosis.advice {
-        let advice = advice.as_str();
-        writeln!(shown, "  {blue}={end} {advice}")?;
-    }
-    Ok(shown)
+    writeln!(shown, "{red}fault {number}{end}{bold}: {what}{end}")
 }
 
-/// The line of some bytes, with carets under them.
-fn push_line(
-    alloc: Global,
-    shown: &mut String,
-    name: &str,
-    bytes: &[u8],
-    span: Span,
-    colour: Colour,
-) -> Result<(), AllocError> {
-    let place = place_of(bytes, span.start);
-    let (red, blue, end) = (colour.red(), colour.blue(), colour.end());
-    push_place(shown, name, place, colour)?;
-    let margin = margin_of(alloc, place.line)?;
-    let (from, to) = window(place, span);
-    let before = between(bytes, from, span.start);
-    let line = printable(alloc, between(bytes, from, to))?;
-    let cut_before = if from > place.start { ".." } else { "" };
-    let cut_behind = if to < place.end { ".." } else { "" };
-    let line_number = place.line;
-    writeln!(shown, " {margin} {blue}|{end}")?;
-    let line = line.as_str();
-    writeln!(
-        shown,
-        " {blue}{line_number} |{end} {cut_before}{line}{cut_behind}"
-    )?;
-    let column = width(alloc, before)?.saturating_add(cut_before.len());
-    let carets = width(alloc, between(bytes, span.start, span.end.min(to)))?.max(1);
-    let spaces = repetition_of(alloc, ' ', column)?;
-    let marks = repetition_of(alloc, '^', carets)?;
-    writeln!(shown, " {margin} {blue}|{end} {spaces}{red}{marks}{end}")
+fn draw_advice(advice: &str, colour: Colour, shown: &mut String) -> Result<(), AllocError> {
+    let (blue, end) = (colour.blue(), colour.end());
+    for line in advice.lines() {
+        writeln!(shown, "  {blue}={end} {line}")?;
+    }
+    Ok(())
 }
 
-/// What is shown of a line: all of it, or of a long one what is near.
-fn window(place: Place, span: Span) -> (usize, usize) {
-    if place.end.saturating_sub(place.start) <= BEFORE + BEHIND {
-        return (place.start, place.end.max(span.start));
-    }
-    let from = place.start.max(span.start.saturating_sub(BEFORE));
-    let to = place.end.min(span.start.saturating_add(BEHIND));
-    (from, to.max(span.start))
+/// The name of a text in which no place is shown.
+fn draw_name(name: &str, colour: Colour, shown: &mut String) -> Result<(), AllocError> {
+    let (blue, end) = (colour.blue(), colour.end());
+    writeln!(shown, "  {blue}-->{end} {name}")
 }
 
 /// The name of the text, and where.
-fn push_place(
-    shown: &mut String,
+fn draw_place(
     name: &str,
     place: Place,
     colour: Colour,
+    shown: &mut String,
 ) -> Result<(), AllocError> {
     let (blue, end) = (colour.blue(), colour.end());
     let line = place.line;
@@ -134,50 +113,153 @@ fn push_place(
     writeln!(shown, "  {blue}-->{end} {name}:{line}:{column}")
 }
 
-/// The lines of a definition in which the place is not known.
-fn push_definition(
-    alloc: Global,
-    shown: &mut String,
-    name: &str,
-    bytes: &[u8],
-    span: Span,
-    colour: Colour,
-) -> Result<(), AllocError> {
-    let first = place_of(bytes, span.start);
-    let last = place_of(bytes, span.end.saturating_sub(1).max(span.start));
-    push_place(shown, name, first, colour)?;
-    let margin = margin_of(alloc, last.line)?;
-    let digits = margin.len();
+/// What stands before a line without a number, where the numbers of lines have so many digits.
+fn draw_margin(digits: usize, colour: Colour, shown: &mut String) -> Result<(), AllocError> {
     let (blue, end) = (colour.blue(), colour.end());
-    writeln!(shown, " {margin} {blue}|{end}")?;
-    let mut line_number = first.line;
-    for line in between(bytes, first.start, last.end)
-        .split(|byte| *byte == b'\n')
-        .take(LINES)
-    {
-        let cut = between(line, 0, line.len().min(BEFORE + BEHIND));
-        let text = printable(alloc, cut)?;
-        let text = text.as_str();
-        let behind = if cut.len() < line.len() { ".." } else { "" };
-        writeln!(shown, " {blue}{line_number:>digits$} |{end} {text}{behind}")?;
-        line_number = line_number.saturating_add(1);
+    push_repeated(' ', digits.saturating_add(2), shown)?;
+    write!(shown, "{blue}|{end}")
+}
+
+/// How many digits a number has.
+fn digits_of(number: usize) -> usize {
+    match number.checked_ilog10() {
+        Some(power) => (power as usize).saturating_add(1),
+        None => 1,
     }
-    if last.line.saturating_sub(first.line) >= LINES {
-        writeln!(shown, " {margin} {blue}|{end} ..")?;
+}
+
+fn push_repeated(letter: char, count: usize, shown: &mut String) -> Result<(), AllocError> {
+    for _ in 0..count.min(400) {
+        shown.push(letter)?;
     }
     Ok(())
 }
 
-/// As many spaces as the number of a line has digits.
-fn margin_of(alloc: Global, line: usize) -> Result<String, AllocError> {
-    let number = format!(in alloc; "{line}")?;
-    repetition_of(alloc, ' ', number.len())
+/// What is shown of a line with the bytes in question: all of it, or of a long one what is near.
+#[derive(Clone, Copy)]
+struct Window<'a> {
+    line: &'a [u8],
+    /// What is shown before the bytes in question, and those of them that are shown.
+    before: &'a [u8],
+    marked: &'a [u8],
+    /// What stands for the bytes that are not shown.
+    cut_before: &'static str,
+    cut_behind: &'static str,
 }
 
-fn repetition_of(alloc: Global, letter: char, count: usize) -> Result<String, AllocError> {
-    let mut made = String::new(alloc);
-    for _ in 0..count.min(400) {
-        made.push(letter)?;
+impl<'a> Window<'a> {
+    fn new(bytes: &'a [u8], place: Place, span: Span) -> Window<'a> {
+        let (from, to) = window_ends(bytes, place, span);
+        Window {
+            line: between(bytes, from, to),
+            before: between(bytes, from, span.start),
+            marked: between(bytes, span.start, span.end.min(to)),
+            cut_before: if from > place.start { ".." } else { "" },
+            cut_behind: if to < place.end { ".." } else { "" },
+        }
     }
-    Ok(made)
+}
+
+/// Where what is shown of a line begins and ends.
+fn window_ends(bytes: &[u8], place: Place, span: Span) -> (usize, usize) {
+    if width(between(bytes, place.start, place.end)) <= BEFORE + BEHIND {
+        return (place.start, place.end.max(span.start));
+    }
+    let before = between(bytes, place.start, span.start);
+    let left_out = bytes_within(before, width(before).saturating_sub(BEFORE));
+    let behind = bytes_within(between(bytes, span.start, place.end), BEHIND);
+    (
+        place.start.saturating_add(left_out),
+        span.start.saturating_add(behind),
+    )
+}
+
+/// The line of some bytes, with carets under them.
+fn draw_line(
+    text: NamedText,
+    span: Span,
+    colour: Colour,
+    shown: &mut String,
+) -> Result<(), AllocError> {
+    let place = place_of(text.bytes, span.start);
+    let digits = digits_of(place.line);
+    let window = Window::new(text.bytes, place, span);
+    draw_place(text.name, place, colour, shown)?;
+    draw_margin(digits, colour, shown)?;
+    shown.push_str("\n")?;
+    draw_window(&window, place.line, colour, shown)?;
+    draw_margin(digits, colour, shown)?;
+    draw_carets(&window, colour, shown)
+}
+
+fn draw_window(
+    window: &Window,
+    number: usize,
+    colour: Colour,
+    shown: &mut String,
+) -> Result<(), AllocError> {
+    let (blue, end) = (colour.blue(), colour.end());
+    write!(shown, " {blue}{number} |{end} ")?;
+    shown.push_str(window.cut_before)?;
+    push_printable(window.line, shown)?;
+    shown.push_str(window.cut_behind)?;
+    shown.push_str("\n")
+}
+
+fn draw_carets(window: &Window, colour: Colour, shown: &mut String) -> Result<(), AllocError> {
+    let column = width(window.before).saturating_add(window.cut_before.len());
+    let carets = width(window.marked).max(1);
+    shown.push_str(" ")?;
+    push_repeated(' ', column, shown)?;
+    shown.push_str(colour.red())?;
+    push_repeated('^', carets, shown)?;
+    shown.push_str(colour.end())?;
+    shown.push_str("\n")
+}
+
+/// The lines of a definition in which the place is not known.
+fn draw_definition(
+    text: NamedText,
+    span: Span,
+    colour: Colour,
+    shown: &mut String,
+) -> Result<(), AllocError> {
+    let first = place_of(text.bytes, span.start);
+    let last = place_of(text.bytes, span.end.saturating_sub(1).max(span.start));
+    let digits = digits_of(last.line);
+    draw_place(text.name, first, colour, shown)?;
+    draw_margin(digits, colour, shown)?;
+    shown.push_str("\n")?;
+    let lines = between(text.bytes, first.start, last.end);
+    draw_lines(lines, first.line, digits, colour, shown)?;
+    if last.line.saturating_sub(first.line) < LINES {
+        return Ok(());
+    }
+    draw_margin(digits, colour, shown)?;
+    shown.push_str(" ..\n")
+}
+
+/// The first lines of some bytes with their numbers, which have at most so many digits.
+fn draw_lines(
+    bytes: &[u8],
+    first: usize,
+    digits: usize,
+    colour: Colour,
+    shown: &mut String,
+) -> Result<(), AllocError> {
+    let (blue, end) = (colour.blue(), colour.end());
+    let mut number = first;
+    for line in bytes.split(|byte| *byte == b'\n').take(LINES) {
+        write!(shown, " {blue}{number:>digits$} |{end} ")?;
+        push_cut(line, shown)?;
+        number = number.saturating_add(1);
+    }
+    Ok(())
+}
+
+/// A line, cut where it is long.
+fn push_cut(line: &[u8], shown: &mut String) -> Result<(), AllocError> {
+    let cut = between(line, 0, bytes_within(line, BEFORE + BEHIND));
+    push_printable(cut, shown)?;
+    shown.push_str(if cut.len() < line.len() { "..\n" } else { "\n" })
 }

@@ -2,6 +2,7 @@
 
 use std::alloc::{AllocError, Global};
 use token::Kind;
+use value::Text;
 
 /// Each kind of token that may stand somewhere, with a text of it.
 pub const WORDS: [(Kind, &str); 68] = [
@@ -129,13 +130,27 @@ pub fn is_reserved(kind: Kind) -> bool {
 }
 
 /// What a person calls a kind of token that is spelled so.
-fn name_of_kind(alloc: Global, kind: Kind, spelling: &str) -> Result<String, AllocError> {
+fn name_of_kind(kind: Kind, spelling: &'static str) -> &'static str {
     match kind {
-        Kind::Name => String::from_str(alloc, "a name"),
-        Kind::Number => String::from_str(alloc, "a number"),
-        Kind::Text => String::from_str(alloc, "a text in quotes"),
-        _ if is_reserved(kind) => String::from_str(alloc, spelling),
-        _ => format!(in alloc; "`{spelling}`"),
+        Kind::Name => "a name",
+        Kind::Number => "a number",
+        Kind::Text => "a text in quotes",
+        Kind::Open => "`(`",
+        Kind::Close => "`)`",
+        Kind::Comma => "`,`",
+        Kind::Semicolon => "`;`",
+        Kind::Colon => "`:`",
+        Kind::Dot => "`.`",
+        Kind::Star => "`*`",
+        Kind::Plus => "`+`",
+        Kind::Minus => "`-`",
+        Kind::Equal => "`=`",
+        Kind::NotEqual => "`<>`",
+        Kind::Less => "`<`",
+        Kind::AtMost => "`<=`",
+        Kind::Greater => "`>`",
+        Kind::AtLeast => "`>=`",
+        _ => spelling,
     }
 }
 
@@ -143,44 +158,86 @@ fn has_all(kinds: &[Kind], wanted: &[Kind]) -> bool {
     wanted.iter().all(|kind| kinds.contains(kind))
 }
 
-/// Kinds of tokens as a person says them: `a, b or c`. What begins an expression, a condition or a comparison is said
-/// at once.
-pub fn choice(alloc: Global, kinds: &[Kind]) -> Result<String, AllocError> {
-    let expression = has_all(kinds, &OF_EXPRESSIONS);
-    let condition = expression && has_all(kinds, &OF_CONDITIONS);
-    let comparison = has_all(kinds, &COMPARISONS);
-    let mut parts: Vec<String> = Vec::new(alloc);
-    if condition {
-        parts.push(String::from_str(alloc, "a condition")?)?;
-    } else if expression {
-        parts.push(String::from_str(alloc, "an expression")?)?;
-    }
-    if comparison {
-        parts.push(String::from_str(alloc, "a comparison")?)?;
-    }
-    for (kind, spelling) in &WORDS {
-        let is_said = (expression && OF_EXPRESSIONS.contains(kind))
-            || (condition && OF_CONDITIONS.contains(kind))
-            || (comparison && COMPARISONS.contains(kind));
-        if kinds.contains(kind) && !is_said {
-            parts.push(name_of_kind(alloc, *kind, spelling)?)?;
-        }
-    }
-    enumeration(alloc, &parts, " or ")
+/// What is said at once of some kinds of tokens.
+#[derive(Clone, Copy)]
+struct SaidAtOnce {
+    expression: bool,
+    condition: bool,
+    comparison: bool,
 }
 
-/// Parts with a comma between each two, and another word before the last.
-pub fn enumeration(alloc: Global, parts: &[String], last: &str) -> Result<String, AllocError> {
-    let mut text = String::new(alloc);
-    let mut left = parts.len();
-    for part in parts {
-        text.push_str(part.as_str())?;
-        if left > 2 {
-            text.push_str(", ")?;
-        } else if left == 2 {
-            text.push_str(last)?;
+impl SaidAtOnce {
+    fn of(kinds: &[Kind]) -> SaidAtOnce {
+        let expression = has_all(kinds, &OF_EXPRESSIONS);
+        SaidAtOnce {
+            expression,
+            condition: expression && has_all(kinds, &OF_CONDITIONS),
+            comparison: has_all(kinds, &COMPARISONS),
         }
-        left = left.saturating_sub(1);
     }
-    Ok(text)
+
+    /// Whether a kind is among what is said at once.
+    fn has(self, kind: Kind) -> bool {
+        (self.expression && OF_EXPRESSIONS.contains(&kind))
+            || (self.condition && OF_CONDITIONS.contains(&kind))
+            || (self.comparison && COMPARISONS.contains(&kind))
+    }
+
+    fn push_parts(self, parts: &mut Vec<&'static str>) -> Result<(), AllocError> {
+        if self.condition {
+            parts.push("a condition")?;
+        } else if self.expression {
+            parts.push("an expression")?;
+        }
+        if self.comparison {
+            parts.push("a comparison")?;
+        }
+        Ok(())
+    }
+}
+
+/// Kinds of tokens as a person says them: `a, b or c`. What begins an expression, a condition or a comparison is said
+/// at once.
+pub fn push_choice(alloc: Global, kinds: &[Kind], text: &mut String) -> Result<(), AllocError> {
+    let mut parts = Vec::new(alloc);
+    push_parts(kinds, &mut parts)?;
+    let mut left = parts.len();
+    for part in &parts {
+        left = left.saturating_sub(1);
+        text.push_str(part)?;
+        text.push_str(separator(left, " or "))?;
+    }
+    Ok(())
+}
+
+fn push_parts(kinds: &[Kind], parts: &mut Vec<&'static str>) -> Result<(), AllocError> {
+    let said = SaidAtOnce::of(kinds);
+    said.push_parts(parts)?;
+    for (kind, spelling) in &WORDS {
+        if kinds.contains(kind) && !said.has(*kind) {
+            parts.push(name_of_kind(*kind, spelling))?;
+        }
+    }
+    Ok(())
+}
+
+/// What stands behind a part of a list in words behind which so many are left: a comma, or before the last another
+/// word.
+pub fn separator(left: usize, last: &str) -> &str {
+    match left {
+        0 => "",
+        1 => last,
+        _ => ", ",
+    }
+}
+
+/// Names as a person says them: `A, B and C`.
+pub fn push_names(names: &[&Text], text: &mut String) -> Result<(), AllocError> {
+    let mut left = names.len();
+    for name in names {
+        left = left.saturating_sub(1);
+        let behind = separator(left, " and ");
+        write!(text, "{name}{behind}")?;
+    }
+    Ok(())
 }

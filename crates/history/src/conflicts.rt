@@ -2,7 +2,7 @@
 
 use crate::histories::{End, Read, Transaction};
 use siread::touches;
-use std::alloc::{AllocError, Global};
+use std::alloc::AllocError;
 use table::Change;
 
 /// A read of one transaction, and a change of another that touches it.
@@ -43,17 +43,17 @@ fn first_touching<'a>(changes: &'a [Change], read: &Read) -> Option<&'a Change> 
     changes.iter().find(|it| touches(it, &read.key))
 }
 
-/// Each read of the one that a change of the other touches, with the first such change, in the order of the reads.
-pub fn conflicts_between<'a>(
-    alloc: Global,
+/// Lists each read of the one that a change of the other touches, with the first such change, in the order of the
+/// reads.
+pub fn push_conflicts<'a>(
     reader: &'a Transaction,
     writer: &'a Transaction,
-) -> Result<Vec<Conflict<'a>>, AllocError> {
-    let mut found = Vec::new(alloc);
+    found: &mut Vec<Conflict<'a>>,
+) -> Result<(), AllocError> {
     for read in &reader.reads {
         if let Some(change) = first_touching(writer.changes.as_slice(), read) {
             found.push(Conflict { read, change })?;
         }
     }
-    Ok(found)
+    Ok(())
 }

@@ -1,9 +1,12 @@
 //! Transactions with what they read and changed, and the events of a script with what each was answered.
 
+use crate::words::{add_change, add_key};
 use alone::Answer;
 use delta::View;
+use printout::Printout;
 use siread::LockKey;
 use sqlite_items::Items;
+use std::alloc::Global;
 use syntax::ScriptLine;
 use table::Change;
 use value::Text;
@@ -79,11 +82,18 @@ pub struct Happening {
     pub view: Option<View>,
 }
 
+impl Happening {
+    /// Whether the event was refused.
+    pub fn is_refused(&self) -> bool {
+        matches!(self.answer, Answer::Refused(_))
+    }
+}
+
 /// What happened when a script was run.
 #[derive(Drop)]
 pub struct History {
-    /// The tables before the first event.
-    pub loaded: View,
+    /// The tables before the first event; none as long as no script was run.
+    pub(crate) loaded: Option<View>,
     pub lines: Items<ScriptLine>,
     /// One for each event, in their order.
     pub events: Vec<Happening>,
@@ -96,6 +106,45 @@ pub struct History {
 }
 
 impl History {
+    /// Nothing has happened yet.
+    pub fn new(alloc: Global) -> History {
+        History {
+            loaded: None,
+            lines: Items::new(alloc),
+            events: Vec::new(alloc),
+            transactions: Vec::new(alloc),
+            order: Vec::new(alloc),
+            sessions: Vec::new(alloc),
+        }
+    }
+
+    /// The name of a session.
+    pub fn session(&self, session: usize) -> Option<&Text> {
+        self.sessions.as_slice().get(session)
+    }
+
+    /// The name of an assertion, by its place in the order of creation.
+    pub fn assertion(&self, place: usize) -> Option<&Text> {
+        match self.loaded.as_ref()?.assertions().get(place) {
+            Some(assertion) => Some(&assertion.name),
+            None => None,
+        }
+    }
+
+    /// Adds what a key means, as [`add_key`] does.
+    pub fn add_key(&self, key: &LockKey, out: &mut Printout) {
+        if let Some(view) = &self.loaded {
+            add_key(view, key, out);
+        }
+    }
+
+    /// Adds what a change did to its row.
+    pub fn add_change(&self, change: &Change, out: &mut Printout) {
+        if let Some(view) = &self.loaded {
+            add_change(view, change, out);
+        }
+    }
+
     /// The committed transaction of a number.
     pub fn commit(&self, number: u64) -> Option<&Transaction> {
         self.transactions

@@ -27,8 +27,8 @@ mod sources;
 mod tries;
 mod words;
 
-pub use conflicts::{Conflict, are_apart, conflict_between, conflicts_between};
+pub use conflicts::{Conflict, are_apart, conflict_between, push_conflicts};
 pub use histories::{End, Happening, History, Read, Reader, Transaction};
 pub use recorders::read_history;
 pub use sources::Source;
-pub use words::{add_bytes, add_change, add_key, add_row, add_table, column_name, table_name};
+pub use words::{add_bytes, add_change, add_key, add_row, add_table, column_name};

@@ -2,10 +2,9 @@
 
 use crate::checks::push_checks;
 use crate::histories::{End, Happening, Read, Reader, Transaction};
-use crate::tries::{Trial, try_statement};
+use crate::tries::try_statement;
 use alone::{Answer, Modes, ResolvedStatement};
-use commit::{Engine, Seat};
-use delta::View;
+use commit::{Core, Seat};
 use sqlite_items::Items;
 use std::alloc::{AllocError, Global};
 use std::mem;
@@ -22,36 +21,30 @@ pub struct Mirror {
     pub transaction: usize,
 }
 
-/// What is noted of the run so far.
-#[derive(Drop)]
-pub struct Notes {
-    pub events: Vec<Happening>,
-    pub transactions: Vec<Transaction>,
-}
-
 /// Follows an event, with what it was answered, in the session's own transaction. That memory is wanting is an error
 /// also where it is the answer.
 pub fn follow(
     alloc: Global,
-    engine: &Engine,
+    core: &Core,
     mirror: &mut Mirror,
     event: usize,
     line: &ScriptLine,
     happening: &mut Happening,
-    notes: &mut Notes,
+    transactions: &mut Vec<Transaction>,
 ) -> Result<(), AllocError> {
-    let core = engine.core();
     match &happening.answer {
         Answer::Refused(Refusal::NoMemory) => Err(AllocError),
         Answer::Begun(snapshot) => {
             let snapshot = *snapshot;
             let read_only = matches!(line.event, Event::BeginReadOnly);
-            let txn = Txn::begin(alloc, 0, snapshot, read_only, core.newest())?;
-            follow_begin(alloc, txn, mirror, event, happening, notes)
+            match Txn::begin(alloc, 0, snapshot, read_only, core.newest()) {
+                Ok(txn) => follow_begin(alloc, txn, mirror, event, happening, transactions),
+                Err(error) => Err(error),
+            }
         }
         _ => {
             let commits = core.records().len() as u64;
-            follow_inside(alloc, commits, mirror, event, line, happening, notes)
+            follow_inside(alloc, commits, mirror, event, line, happening, transactions)
         }
     }
 }
@@ -64,12 +57,12 @@ fn follow_inside(
     event: usize,
     line: &ScriptLine,
     happening: &mut Happening,
-    notes: &mut Notes,
+    transactions: &mut Vec<Transaction>,
 ) -> Result<(), AllocError> {
     if mirror.seat.txn.is_none() {
         return Ok(());
     }
-    let Some(transaction) = notes.transactions.get_mut(mirror.transaction) else {
+    let Some(transaction) = transactions.get_mut(mirror.transaction) else {
         return Ok(());
     };
     happening.transaction = Some(mirror.transaction);
@@ -100,15 +93,15 @@ fn follow_begin(
     mirror: &mut Mirror,
     event: usize,
     happening: &mut Happening,
-    notes: &mut Notes,
+    transactions: &mut Vec<Transaction>,
 ) -> Result<(), AllocError> {
     let (read_only, snapshot) = (txn.is_read_only(), txn.snapshot());
     let modes = Modes::initial(alloc, txn.own().assertions());
     set_txn(&mut mirror.seat, Some(txn));
     mirror.modes = modes?;
-    mirror.transaction = notes.transactions.len();
+    mirror.transaction = transactions.len();
     happening.transaction = Some(mirror.transaction);
-    notes.transactions.push(Transaction {
+    transactions.push(Transaction {
         session: happening.session,
         begun: event,
         ended: event,
@@ -134,35 +127,42 @@ fn follow_statement(
     let Some(txn) = &mut mirror.seat.txn else {
         return Ok(());
     };
-    let trial = try_statement(alloc, txn.own(), txn.is_read_only(), statement)?;
-    let own = txn.own().copy()?;
-    execute(txn, event, statement, transaction)?;
-    match trial {
-        Some(Trial { changes, view }) => {
-            push_checks(
-                alloc,
-                &mut transaction.reads,
-                &view,
-                &mirror.modes,
-                changes.as_slice(),
-                event,
-            )?;
-            happening.changes = changes;
-            note_view(happening, view);
-            Ok(())
-        }
-        None => {
-            note_view(happening, own);
-            follow_modes(alloc, mirror, event, happening, transaction)
-        }
+    try_statement(alloc, txn.own(), txn.is_read_only(), statement, happening)?;
+    let has_view = happening.view.is_some();
+    if !has_view {
+        happening.view = Some(txn.own().copy()?);
     }
+    execute(txn, event, statement, transaction)?;
+    if has_view {
+        push_tried(alloc, &mirror.modes, event, happening, transaction)?;
+    } else {
+        follow_modes(alloc, mirror, event, happening, transaction)?;
+    }
+    if !happening.is_refused() {
+        happening.view = None;
+    }
+    Ok(())
 }
 
-/// Keeps the view of a refused event.
-fn note_view(happening: &mut Happening, view: View) {
-    if let Answer::Refused(_) = &happening.answer {
-        happening.view = Some(view);
-    }
+/// Notes what the checks behind a statement read, over the changes that it makes.
+fn push_tried(
+    alloc: Global,
+    modes: &Modes,
+    event: usize,
+    happening: &Happening,
+    transaction: &mut Transaction,
+) -> Result<(), AllocError> {
+    let Some(view) = &happening.view else {
+        return Ok(());
+    };
+    push_checks(
+        alloc,
+        &mut transaction.reads,
+        view,
+        modes,
+        happening.changes.as_slice(),
+        event,
+    )
 }
 
 /// Runs the statement, and notes what it read itself.
@@ -229,8 +229,7 @@ fn follow_modes_in(
         let changes = closed.changes();
         push_checks(alloc, &mut transaction.reads, own, &meant, changes, event)?;
     }
-    let is_set = !matches!(happening.answer, Answer::Refused(_));
-    if is_set && mirror.modes.len() == assertions.len() {
+    if !happening.is_refused() && mirror.modes.len() == assertions.len() {
         mirror.modes = mirror
             .modes
             .set(alloc, assertions, names.as_slice(), *mode)?;
@@ -290,8 +289,9 @@ fn note_closed(
         event,
     )?;
     transaction.changes = copy_changes(alloc, changes)?;
-    let view = own.copy()?;
-    note_view(happening, view);
+    if happening.is_refused() {
+        happening.view = Some(own.copy()?);
+    }
     Ok(())
 }
 

@@ -3,103 +3,86 @@
 ghost use Rattle.std.specs.Prelude.{◌≤◌};
 
 use crate::histories::{Happening, History};
-use crate::mirrors::{Mirror, Notes, follow};
+use crate::mirrors::{Mirror, follow};
 use alone::Modes;
 use commit::{Engine, Seat};
 use replay::{ProgramFault, begin_run};
-use sqlite_items::Items;
 use std::alloc::{AllocError, Global};
 use syntax::ScriptLine;
 use value::Text;
 
-/// What happens when a script of any sessions is run on definitions, with at most so many commits.
+/// Notes what happens when a script of any sessions is run on definitions, with at most so many commits, in a history
+/// of nothing yet.
 ///
 /// # Errors
 ///
-/// The first fault, as `replay::replay_into` answers it before the run; or [`ProgramFault::Stopped`] where memory ends
-/// the run.
+/// The first fault, as `replay::replay_into` answers it before the run; the history is then as it was. Or
+/// [`ProgramFault::Stopped`] where memory ends the run; the history then has a part of it.
 pub fn read_history(
     alloc: Global,
     defs: &[u8],
     script: &[u8],
     max_commits: u64,
-) -> Result<History, ProgramFault>
+    history: &mut History,
+) -> Result<(), ProgramFault>
     requires within { max_commits ≤ 4294967295 }
 {
     let (engine, lines) = begin_run(alloc, defs, script, max_commits)?;
-    match record(alloc, engine, lines) {
-        Ok(history) => Ok(history),
+    let mut engine = engine;
+    let mut mirrors = Vec::new(alloc);
+    let recorded = record(alloc, &mut engine, lines.as_slice(), &mut mirrors, history);
+    drop(mirrors);
+    drop(engine);
+    history.lines = lines;
+    match recorded {
+        Ok(()) => Ok(()),
         Err(_) => Err(ProgramFault::Stopped),
     }
 }
 
 /// Runs the events, and notes what happened.
-fn record(alloc: Global, engine: Engine, lines: Items<ScriptLine>) -> Result<History, AllocError> {
-    let mut engine = engine;
-    let mut mirrors = make_mirrors(alloc, engine.seats())?;
-    let mut notes = Notes {
-        events: Vec::new(alloc),
-        transactions: Vec::new(alloc),
-    };
-    record_all(
-        alloc,
-        &mut engine,
-        &mut mirrors,
-        lines.as_slice(),
-        &mut notes,
-    )?;
-    let loaded = engine.core().loaded().copy()?;
-    let order = Vec::from_slice(alloc, engine.core().serial_order())?;
-    let sessions = names_of(alloc, mirrors.as_slice())?;
-    let Notes {
-        events,
-        transactions,
-    } = notes;
-    Ok(History {
-        loaded,
-        lines,
-        events,
-        transactions,
-        order,
-        sessions,
-    })
+fn record(
+    alloc: Global,
+    engine: &mut Engine,
+    lines: &[ScriptLine],
+    mirrors: &mut Vec<Mirror>,
+    history: &mut History,
+) -> Result<(), AllocError> {
+    push_mirrors(alloc, engine.seats(), mirrors)?;
+    push_names(engine.seats(), &mut history.sessions)?;
+    history.loaded = Some(engine.core().loaded().copy()?);
+    for (event, line) in lines.iter().enumerate() {
+        record_line(alloc, engine, mirrors, event, line, history)?;
+    }
+    history
+        .order
+        .extend_from_slice(engine.core().serial_order())
 }
 
 /// A place for the transaction of each session.
-fn make_mirrors(alloc: Global, seats: &[Seat]) -> Result<Vec<Mirror>, AllocError> {
-    let mut mirrors = Vec::new(alloc);
+fn push_mirrors(
+    alloc: Global,
+    seats: &[Seat],
+    mirrors: &mut Vec<Mirror>,
+) -> Result<(), AllocError> {
     for seat in seats {
-        let mirror = Mirror {
+        let modes = Modes::initial(alloc, &[])?;
+        mirrors.push(Mirror {
             seat: Seat {
                 session: seat.session.copy()?,
                 txn: None,
             },
-            modes: Modes::initial(alloc, &[])?,
+            modes,
             transaction: 0,
-        };
-        mirrors.push(mirror)?;
+        })?;
     }
-    Ok(mirrors)
+    Ok(())
 }
 
 /// The names of the sessions.
-fn names_of(alloc: Global, mirrors: &[Mirror]) -> Result<Vec<Text>, AllocError> {
-    let mut names = Vec::new(alloc);
-    for mirror in mirrors {
-        names.push(mirror.seat.session.copy()?)?;
-    }
-    Ok(names)
-}
-
-fn record_all(
-    alloc: Global,
-    engine: &mut Engine,
-    mirrors: &mut Vec<Mirror>,
-    lines: &[ScriptLine],
-    notes: &mut Notes,
-) -> Result<(), AllocError> {
-    for (event, line) in lines.iter().enumerate() {
-        record_line(alloc, engine, mirrors, event, line, notes)?;
+fn push_names(seats: &[Seat], names: &mut Vec<Text>) -> Result<(), AllocError> {
+    for seat in seats {
+        names.push(seat.session.copy()?)?;
     }
     Ok(())
 }
@@ -111,9 +94,8 @@ fn record_line(
     mirrors: &mut Vec<Mirror>,
     event: usize,
     line: &ScriptLine,
-    notes: &mut Notes,
+    history: &mut History,
 ) -> Result<(), AllocError> {
-    let answer = engine.answer(line);
     let found = mirrors
         .iter()
         .position(|it| it.seat.session == line.session);
@@ -123,14 +105,23 @@ fn record_line(
     let Some(mirror) = mirrors.get_mut(session) else {
         return Ok(());
     };
-    let mut happening = Happening {
-        answer,
+    history.events.push(Happening {
+        answer: engine.answer(line),
         session,
         transaction: None,
         changes: Vec::new(alloc),
         view: None,
+    })?;
+    let Some(happening) = history.events.last_mut() else {
+        return Ok(());
     };
-    follow(alloc, engine, mirror, event, line, &mut happening, notes)?;
-    notes.events.push(happening)?;
-    Ok(())
+    follow(
+        alloc,
+        engine.core(),
+        mirror,
+        event,
+        line,
+        happening,
+        &mut history.transactions,
+    )
 }

@@ -1,6 +1,7 @@
 //! The texts of events and definitions, found again.
 
 use crate::words::add_bytes;
+use printout::Printout;
 use std::alloc::{AllocError, Global};
 use token::{Kind, Token, read_tokens};
 
@@ -13,11 +14,23 @@ pub struct Source {
 }
 
 impl Source {
-    /// The pieces of a text.
-    pub fn read(alloc: Global, text: &[u8]) -> Result<Source, AllocError> {
-        let tokens = read_tokens(alloc, text)?;
-        let pieces = pieces_of(alloc, tokens.as_slice())?;
-        Ok(Source { tokens, pieces })
+    /// Of no text yet: there is no piece.
+    pub fn new(alloc: Global) -> Source {
+        Source {
+            tokens: Vec::new(alloc),
+            pieces: Vec::new(alloc),
+        }
+    }
+
+    /// Finds the pieces of a text, and forgets those of another.
+    ///
+    /// # Errors
+    ///
+    /// Where there is no memory for them. Which pieces were found is then unknown.
+    pub fn read(&mut self, alloc: Global, text: &[u8]) -> Result<(), AllocError> {
+        self.pieces.clear();
+        self.tokens = read_tokens(alloc, text)?;
+        push_pieces(self.tokens.as_slice(), &mut self.pieces)
     }
 
     /// The line on which a piece begins, from 1 upwards.
@@ -43,16 +56,16 @@ impl Source {
     }
 
     /// Adds a piece without its semicolon, with one space where blanks and comments are.
-    pub fn add_piece(&self, text: &[u8], piece: usize, out: &mut String) -> Result<(), AllocError> {
-        let mut end = None;
-        for token in self.tokens_of(piece) {
-            if end.is_some_and(|end| end != token.start) {
-                out.push(' ')?;
-            }
-            add_bytes(text.get(token.start..token.end).unwrap_or(&[]), out)?;
-            end = Some(token.end);
+    pub fn add_piece(&self, text: &[u8], piece: usize, out: &mut Printout) {
+        add_tokens(self.tokens_of(piece), text, out);
+    }
+
+    /// Adds an event of a script in the same way, without its session.
+    pub fn add_event(&self, text: &[u8], piece: usize, out: &mut Printout) {
+        match self.tokens_of(piece) {
+            [_session, _colon, event @ ..] => add_tokens(event, text, out),
+            _ => {}
         }
-        Ok(())
     }
 
     /// The tokens of a piece.
@@ -64,9 +77,20 @@ impl Source {
     }
 }
 
-/// The pieces of some tokens.
-fn pieces_of(alloc: Global, tokens: &[Token]) -> Result<Vec<(usize, usize)>, AllocError> {
-    let mut pieces = Vec::new(alloc);
+/// Adds tokens, with one space where something is between them.
+fn add_tokens(tokens: &[Token], text: &[u8], out: &mut Printout) {
+    let mut end = None;
+    for token in tokens {
+        if end.is_some_and(|end| end != token.start) {
+            out.add(" ");
+        }
+        add_bytes(text.get(token.start..token.end).unwrap_or(&[]), out);
+        end = Some(token.end);
+    }
+}
+
+/// Puts the pieces of some tokens behind the others.
+fn push_pieces(tokens: &[Token], pieces: &mut Vec<(usize, usize)>) -> Result<(), AllocError> {
     let mut first = 0;
     for (at, token) in tokens.iter().enumerate() {
         if token.kind == Kind::Semicolon {
@@ -74,7 +98,7 @@ fn pieces_of(alloc: Global, tokens: &[Token]) -> Result<Vec<(usize, usize)>, All
             first = at.saturating_add(1);
         }
     }
-    Ok(pieces)
+    Ok(())
 }
 
 /// Whether these are the tokens of CREATE ASSERTION.

@@ -37,7 +37,7 @@ number n fits = both (decimal n) (9 ∷ []) (digits n fits) (tab, tt)
 
 text : (bytes : List ℕ) → AllByRecursion IsTextByte bytes → IsLine bytes
 text [] fits = tt
-text (b ∷ bytes) fits = (byte b (omega (arith, fits.0.0)), text bytes fits.1)
+text (b ∷ bytes) fits = (byte b (omega (arith, fits.0)), text bytes fits.1)
 
 value : (v : Value) → FitsValue v → IsLine (spelled.value v)
 value Null fits = (byte 78 (omega arith), (tab, tt))

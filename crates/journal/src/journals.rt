@@ -88,6 +88,7 @@ impl<D: Device> Journal<D> {
 
         ensures roomy { OnOk result (Holds D.seen D.may_leave told.first told.entries self.new) }
         ensures more { OnOk result (self.new.room ≡ self.old.room + count) }
+        ensures end { OnOk result (self.new.end ≡ self.old.end) }
 
         ensures any_moment { LeavesOnly D.moment D.left_since self.old.device self.new.device
             (IsBetween told.first told.entries []) }

@@ -1,9 +1,11 @@
 //! Lines as they grow, field by field.
 
-ghost use Rattle.std.specs.Prelude.{◌≡◌, ◌≤◌, ◌++◌, ◌∷◌, [], drop, take, length, OnOk, IfOk, decimal};
+ghost use Rattle.std.specs.Prelude.{◌≡◌, ◌≤◌, ◌++◌, ◌∷◌, [], drop, take, true, length, OnOk, OnErr, IfOk, decimal};
 ghost use Rattle.std.specs.Fmt.{signed_decimal};
 ghost use Rattle.journal.specs.Spelling as spelling;
+ghost use Rattle.journal.specs.Headers.{header_fields, header_line};
 
+use crate::headers::{Header, TITLE};
 use crate::sums::sum_of;
 use itoa::Buffer;
 use std::alloc::{AllocError, Global};
@@ -61,6 +63,21 @@ impl Lines {
         ensures { self.new ≡ take len self.old }
     {
         self.bytes.truncate(len);
+    }
+
+    /// Whether there is none.
+    pub fn is_empty(&self) -> bool
+        ensures { result ≡ true → self.now ≡ [] }
+    {
+        self.bytes.is_empty()
+    }
+
+    /// Adds other lines. Where no memory is left, none is added.
+    pub fn add_lines(&mut self, more: &Lines) -> Result<(), AllocError>
+        ensures added { OnOk result (self.new ≡ self.old ++ more.now) }
+        ensures same { OnErr result (self.new ≡ self.old) }
+    {
+        self.bytes.extend_from_slice(more.as_slice())
     }
 
     fn put(&mut self, bytes: &[u8]) -> Result<(), AllocError>
@@ -171,5 +188,23 @@ impl Lines {
         self.add_sum(from)?;
         self.put(b"\n")?;
         Ok(())
+    }
+
+    fn add_header_fields(&mut self, header: &Header) -> Result<(), AllocError>
+        ensures { OnOk result (self.new ≡ self.old ++ header_fields header.now) }
+    {
+        self.put(TITLE)?;
+        self.add_number(header.first)?;
+        self.add_number(header.declared)
+    }
+
+    /// Adds the first line of a file.
+    pub fn add_header(&mut self, header: &Header) -> Result<(), AllocError>
+        ensures { OnOk result (self.new ≡ self.old ++ header_line header.now) }
+    {
+        let from = self.len();
+        self.add_header_fields(header)?;
+        self.add_sum(from)?;
+        self.put(b"\n")
     }
 }

@@ -20,4 +20,7 @@ operation_of n =
     else if n == 11 then Some op.Rollback
     else if n == 12 then Some op.Report
     else if n == 13 then Some op.Checkpoint
+    else if n == 14 then Some op.RunAll
+    else if n == 15 then Some op.Transact
+    else if n == 16 then Some op.Image
     else None

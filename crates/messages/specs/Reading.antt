@@ -48,13 +48,17 @@ value_at (suc (suc zero) ∷ rest) = do
   Some (Text t.0, t.1)
 value_at (suc (suc (suc b)) ∷ rest) = None
 
--- so many values
-unfoldable pub values_in : ℕ → List ℕ → Option (List Value × List ℕ)
-values_in zero bytes = Some ([], bytes)
-values_in (suc n) bytes = do
-  first ← value_at bytes
-  others ← values_in n first.1
+-- so many fields of a kind, one behind the other
+unfoldable pub many_in : {A : Type 0} → (List ℕ → Option (A × List ℕ)) → ℕ → List ℕ → Option (List A × List ℕ)
+many_in field_at zero bytes = Some ([], bytes)
+many_in field_at (suc n) bytes = do
+  first ← field_at bytes
+  others ← many_in field_at n first.1
   Some (first.0 ∷ others.0, others.1)
+
+-- so many values
+abbrev pub values_in : ℕ → List ℕ → Option (List Value × List ℕ)
+values_in = many_in value_at
 
 -- how many, and then all of the bytes
 unfoldable pub values_at : List ℕ → Option (List Value)

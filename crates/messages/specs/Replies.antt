@@ -18,6 +18,8 @@ use Rattle.messages.specs.declared.responses.Misuse.{Misuse}
 use Rattle.messages.specs.declared.responses.Misuse.TheVariants as misuse
 use Rattle.messages.specs.declared.responses.Source.{Source}
 use Rattle.messages.specs.declared.responses.Source.TheVariants as source
+use Rattle.messages.specs.declared.responses.Unrestored.{Unrestored}
+use Rattle.messages.specs.declared.responses.Unrestored.TheVariants as unrestored
 use Rattle.messages.specs.declared.responses.Response.{Response}
 use Rattle.messages.specs.declared.responses.Response.TheVariants as response
 
@@ -65,17 +67,46 @@ answer_bytes all script_line (answer.Committed n) line = number_reply 6 n
 answer_bytes all script_line answer.RolledBack line = 7 ∷ []
 answer_bytes all script_line (answer.Refused refusal) line = refused_reply (is_commit script_line.event) refusal line
 
+-- the numbers of a refusal that has none
+abbrev pub no_numbers : List ℕ
+no_numbers = number 0 ++ number 0 ++ number 0 ++ number 0 ++ number 0
+
+-- the reply of a COMMIT that could not be kept: a refusal of number 25, which names nothing, and its line
+abbrev pub not_kept_reply : (line : List ℕ) → List ℕ
+not_kept_reply line = number_reply 15 25 ++ text (codes "58030") ++ text [] ++ 4 ∷ no_numbers ++ text line
+
+-- why a journal was not opened: which fault, the commit, and the byte of the file
+abbrev pub fault_reply : (fault commit at : ℕ) → List ℕ
+fault_reply fault commit at = number_reply 18 fault ++ number commit ++ number at
+
+-- the fault by its number; 0 stands where there is no commit or no byte
+abbrev pub unrestored_reply : Unrestored → List ℕ
+unrestored_reply unrestored.Headless = fault_reply 1 0 0
+unrestored_reply unrestored.OfOthers = fault_reply 2 0 0
+unrestored_reply (unrestored.Damaged commit at) = fault_reply 3 commit at
+unrestored_reply (unrestored.NotDue commit) = fault_reply 4 commit 0
+
+-- the beginning of a journal's file
+abbrev pub image_reply : List ℕ → List ℕ
+image_reply bytes = 19 ∷ text bytes
+
 -- the word for what was refused, in front of the line of its refusal
 abbrev pub source_name : Source → List ℕ
 source_name source.Definitions = codes "DEFS"
 source_name source.Session = codes "SESSION"
 source_name source.Statement = codes "STATEMENT"
 source_name source.Rules = codes "RULES"
+source_name source.Journal = codes "JOURNAL"
+
+-- the line of a session whose COMMIT could not be kept
+abbrev pub not_kept_line : (session : List ℕ) → List ℕ
+not_kept_line session = session ++ codes ": REFUSED 25 58030 IO ERROR\n"
 
 -- the line of an answer or of a refusal; empty for any other response
 abbrev pub line_of : Response → List ℕ
 line_of (response.Answered script_line answer) = answer_line script_line answer
 line_of (response.Refused source refusal) = refusal_line (source_name source) refusal
+line_of (response.NotKept session) = not_kept_line session
 line_of other = []
 
 -- whether an event was refused
@@ -87,6 +118,7 @@ is_refused other = false
 abbrev pub is_refusal : Response → Bool
 is_refusal (response.Answered script_line answer) = is_refused answer
 is_refusal (response.Refused source refusal) = true
+is_refusal (response.NotKept session) = true
 is_refusal other = false
 
 -- with this line in a refusal
@@ -101,6 +133,9 @@ response_with all (response.Closing bytes) line = text_reply bytes
 response_with all (response.Changed bytes) line = text_reply bytes
 response_with all (response.Refused source refusal) line = refused_reply false refusal line
 response_with all (response.Misused misuse) line = misuse_reply misuse
+response_with all (response.NotKept session) line = not_kept_reply line
+response_with all (response.Unrestored why) line = unrestored_reply why
+response_with all (response.Image bytes) line = image_reply bytes
 
 -- the bytes of a response; a refusal has its line at the end
 abbrev pub response_bytes : List Column → Response → List ℕ

@@ -1,8 +1,10 @@
 -- What stands in the requests of several fields.
 use Rattle.std.specs.Prelude.{ℕ, ◌==◌, List, length, Option, Some, None, if◌then◌else◌}
 use Rattle.value.specs.declared.values.Value.{Value}
-use Rattle.messages.specs.Reading.{◌>>=◌, number_at, text_at, values_at}
+use Rattle.messages.specs.Reading.{◌>>=◌, many_in, number_at, text_at, values_at, values_in}
 use Rattle.messages.specs.declared.requests.RunRequest.{RunRequest}
+use Rattle.messages.specs.declared.requests.Step.{Step}
+use Rattle.messages.specs.declared.requests.StepsRequest.{StepsRequest}
 
 -- the number that is all of a request
 unfoldable pub only_number : List ℕ → Option ℕ
@@ -34,3 +36,23 @@ checkpoint_request request = do
   created ← text_at request
   dropped ← values_at created.1
   Some (created.0, dropped)
+
+-- a statement, how many values, and these
+unfoldable pub step_at : List ℕ → Option (Step × List ℕ)
+step_at bytes = do
+  statement ← number_at bytes
+  count ← number_at statement.1
+  values ← values_in count.0 count.1
+  Some (record { statement = statement.0; values = values.0 }, values.1)
+
+-- so many statements with their values
+abbrev pub steps_in : ℕ → List ℕ → Option (List Step × List ℕ)
+steps_in = many_in step_at
+
+-- a session, how many statements, and all of these with their values
+unfoldable pub steps_request : List ℕ → Option StepsRequest
+steps_request request = do
+  session ← number_at request
+  count ← number_at session.1
+  steps ← steps_in count.0 count.1
+  if length steps.1 == 0 then Some (record { session = session.0; steps = steps.0 }) else None

@@ -1,8 +1,9 @@
 //! What a C program asks, and what it is answered: operations, requests and responses, and the bytes of both.
 //!
 //! An [`Operation`] is named by a number. What its request asks for is in `specs/Requests`. A [`Response`] is what a
-//! call answers; [`status_of`] is what the call returns then, and [`response_bytes`] are the bytes of its reply, by
-//! their kind in front (`specs/Replies`). An answer or a refusal has a line in the report too ([`line_bytes`]).
+//! call answers; [`status_of`] is what the call returns then, and [`add_response_bytes`] adds the bytes of its reply,
+//! by their kind in front (`specs/Replies`). An answer or a refusal has a line in the report too ([`add_line_bytes`]).
+//! A call that makes several events is answered by several responses ([`Outcome`]).
 //!
 //! The bytes. A number is eight bytes, the lowest first, and a negative one stands in two's complement. A text is the
 //! number of its bytes, and these. A value is one byte for its kind, and then what it holds: 0 for NULL, 1 and a
@@ -31,9 +32,12 @@ pub use laws::what_is_spelled_is_read;
 pub use names::{is_name, read_name};
 pub use operations::{Operation, operation_of};
 pub use reading::{read_number, read_text, read_values};
-pub use replies::{line_bytes, response_bytes};
-pub use requests::{RunRequest, read_checkpoint, read_only_number, read_run};
+pub use replies::{add_count_of_replies, add_line_bytes, add_response_bytes};
+pub use requests::{
+    RunRequest, Step, StepsRequest, read_checkpoint, read_only_number, read_run, read_steps,
+};
 pub use responses::{
-    Misuse, Response, Source, Status, status_number, status_of, status_without_reply,
+    Misuse, Outcome, Response, Source, Status, Unrestored, is_done, status_number, status_of,
+    status_of_outcome, status_of_waiting,
 };
 pub use writing::Bytes;

@@ -3,7 +3,8 @@
 ghost use Rattle.std.specs.Prelude.{◌≡◌};
 ghost use Rattle.messages.specs.Operations.{operation_of};
 
-/// What a call does. `Again` and `Line` ask for the last response, and change nothing.
+/// What a call does. `Again` and `Line` ask for what the last call was answered, and change nothing; `RunAll` and
+/// `Transact` make several events.
 #[derive(Clone, Copy, Debug, PartialEq, Eq)]
 pub enum Operation {
     Again,
@@ -20,9 +21,12 @@ pub enum Operation {
     Rollback,
     Report,
     Checkpoint,
+    RunAll,
+    Transact,
+    Image,
 }
 
-/// The operation of a number; there is none beyond 13.
+/// The operation of a number; there is none beyond 16.
 pub fn operation_of(number: u32) -> Option<Operation>
     ensures { result ≡ operation_of number }
 {
@@ -41,6 +45,9 @@ pub fn operation_of(number: u32) -> Option<Operation>
         11 => Some(Operation::Rollback),
         12 => Some(Operation::Report),
         13 => Some(Operation::Checkpoint),
+        14 => Some(Operation::RunAll),
+        15 => Some(Operation::Transact),
+        16 => Some(Operation::Image),
         _ => None,
     }
 }

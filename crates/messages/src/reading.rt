@@ -70,7 +70,8 @@ fn read_value(alloc: Global, bytes: &[u8]) -> Result<(Value, &[u8]), FieldFault>
     }
 }
 
-fn read_some(alloc: Global, count: u64, bytes: &[u8]) -> Result<(Vec<Value>, &[u8]), FieldFault>
+/// So many values, and the bytes behind them.
+pub fn read_some(alloc: Global, count: u64, bytes: &[u8]) -> Result<(Vec<Value>, &[u8]), FieldFault>
     ensures { Gives (λ x. (x.0.items, x.1.now)) result (values_in count bytes.now) }
 {
     let mut values = Vec::new(alloc);

@@ -1,11 +1,11 @@
 //! The bytes of a response.
 
-ghost use Rattle.std.specs.Prelude.{◌≡◌, ◌++◌, IfOk, OnOk};
+ghost use Rattle.std.specs.Prelude.{◌≡◌, ◌++◌, OnOk};
 ghost use Rattle.report.specs.Report.{is_commit};
 ghost use Rattle.messages.specs.Replies as spec;
 
 use crate::lines::line_of;
-use crate::responses::{Misuse, Response};
+use crate::responses::{Misuse, Response, Unrestored};
 use crate::writing::Bytes;
 use alone::{Answer, Reply};
 use std::alloc::{AllocError, Global};
@@ -50,6 +50,12 @@ const TEXT: u8 = 14;
 const REFUSAL: u8 = 15;
 
 const MISUSED: u8 = 16;
+
+const SEVERAL: u8 = 17;
+
+const UNRESTORED: u8 = 18;
+
+const IMAGE: u8 = 19;
 
 fn is_commit(event: &Event) -> bool
     ensures { result ≡ is_commit event.now }
@@ -172,6 +178,57 @@ fn add_answer(
     }
 }
 
+/// The reply of a COMMIT that could not be kept: the parts of a refusal of number 25, which names nothing, and its
+/// line.
+fn add_not_kept(bytes: &mut Bytes, line: &[u8]) -> Result<(), AllocError>
+    ensures { OnOk result (bytes.new ≡ bytes.old ++ spec.not_kept_reply line.now) }
+{
+    add_numbered(bytes, REFUSAL, 25)?;
+    bytes.add_text(b"58030")?;
+    bytes.add_text(&[])?;
+    bytes.add_byte(4)?;
+    add_no_numbers(bytes)?;
+    bytes.add_text(line)
+}
+
+/// The numbers of a refusal that has none.
+fn add_no_numbers(bytes: &mut Bytes) -> Result<(), AllocError>
+    ensures { OnOk result (bytes.new ≡ bytes.old ++ spec.no_numbers) }
+{
+    bytes.add_number(0)?;
+    bytes.add_number(0)?;
+    bytes.add_number(0)?;
+    bytes.add_number(0)?;
+    bytes.add_number(0)
+}
+
+/// Why a journal was not opened: which fault, the commit, and the byte.
+fn add_unrestored(bytes: &mut Bytes, why: Unrestored) -> Result<(), AllocError>
+    ensures { OnOk result (bytes.new ≡ bytes.old ++ spec.unrestored_reply why) }
+{
+    match why {
+        Unrestored::Headless => add_fault(bytes, 1, 0, 0),
+        Unrestored::OfOthers => add_fault(bytes, 2, 0, 0),
+        Unrestored::Damaged { number, at } => add_fault(bytes, 3, number, at as u64),
+        Unrestored::NotDue { number } => add_fault(bytes, 4, number, 0),
+    }
+}
+
+fn add_fault(bytes: &mut Bytes, fault: u64, number: u64, at: u64) -> Result<(), AllocError>
+    ensures { OnOk result (bytes.new ≡ bytes.old ++ spec.fault_reply fault number at) }
+{
+    add_numbered(bytes, UNRESTORED, fault)?;
+    bytes.add_number(number)?;
+    bytes.add_number(at)
+}
+
+fn add_image(bytes: &mut Bytes, image: &[u8]) -> Result<(), AllocError>
+    ensures { OnOk result (bytes.new ≡ bytes.old ++ spec.image_reply image.now) }
+{
+    bytes.add_byte(IMAGE)?;
+    bytes.add_text(image)
+}
+
 /// The line that stands in a reply: that of a refusal.
 fn is_refusal(response: &Response) -> bool
     ensures { result ≡ spec.is_refusal response.now }
@@ -182,6 +239,7 @@ fn is_refusal(response: &Response) -> bool
             ..
         } => true,
         Response::Refused { .. } => true,
+        Response::NotKept(_) => true,
         _ => false,
     }
 }
@@ -208,33 +266,44 @@ fn add_response(
         Response::Changed(text) => add_text(bytes, text.as_bytes()),
         Response::Refused { refusal, .. } => add_refused(bytes, false, refusal, line),
         Response::Misused(misuse) => add_misuse(bytes, *misuse),
+        Response::NotKept(_) => add_not_kept(bytes, line),
+        Response::Unrestored(why) => add_unrestored(bytes, *why),
+        Response::Image(image) => add_image(bytes, image.as_bytes()),
     }
 }
 
-/// The bytes of a response. `columns` are those of the table of a SELECT that lists all.
-pub fn response_bytes(
+/// Adds the bytes of a response. `columns` are those of the table of a SELECT that lists all.
+pub fn add_response_bytes(
     alloc: Global,
+    bytes: &mut Bytes,
     columns: &[Column],
     response: &Response,
-) -> Result<Bytes, AllocError>
-    ensures { IfOk result (λ bytes. bytes ≡ spec.response_bytes columns.now response.now) }
+) -> Result<(), AllocError>
+    ensures { OnOk result (bytes.new ≡ bytes.old ++ spec.response_bytes columns.now response.now) }
 {
-    let mut bytes = Bytes::new(alloc)?;
     if is_refusal(response) {
         let line = line_of(alloc, response)?;
-        add_response(&mut bytes, columns, response, line.as_slice())?;
+        add_response(bytes, columns, response, line.as_slice())
     } else {
-        add_response(&mut bytes, columns, response, &[])?;
+        add_response(bytes, columns, response, &[])
     }
-    Ok(bytes)
 }
 
-/// The bytes of its line.
-pub fn line_bytes(alloc: Global, response: &Response) -> Result<Bytes, AllocError>
-    ensures { IfOk result (λ bytes. bytes ≡ spec.text_reply (spec.line_of response.now)) }
+/// Adds the bytes of its line.
+pub fn add_line_bytes(
+    alloc: Global,
+    bytes: &mut Bytes,
+    response: &Response,
+) -> Result<(), AllocError>
+    ensures { OnOk result (bytes.new ≡ bytes.old ++ spec.text_reply (spec.line_of response.now)) }
 {
-    let mut bytes = Bytes::new(alloc)?;
     let line = line_of(alloc, response)?;
-    add_text(&mut bytes, line.as_slice())?;
-    Ok(bytes)
+    add_text(bytes, line.as_slice())
+}
+
+/// Adds what stands in front of several replies: their kind, and how many they are.
+pub fn add_count_of_replies(bytes: &mut Bytes, count: usize) -> Result<(), AllocError>
+    ensures { OnOk result (bytes.new ≡ bytes.old ++ spec.number_reply 17 count) }
+{
+    add_numbered(bytes, SEVERAL, count as u64)
 }

@@ -4,6 +4,7 @@ ghost use Rattle.std.specs.Prelude.{◌≡◌};
 ghost use Rattle.messages.specs.Statuses as spec;
 
 use alone::Answer;
+use sqlite_items::Items;
 use syntax::ScriptLine;
 use value::{Refusal, Text};
 
@@ -14,6 +15,8 @@ pub enum Source {
     Session,
     Statement,
     Rules,
+    /// What a journal holds.
+    Journal,
 }
 
 /// Why a call was not made. Nothing has changed then.
@@ -33,8 +36,23 @@ pub enum Misuse {
     BadName,
     /// A session of this name is open.
     NameTaken,
-    /// The definitions were refused, so there is no database.
+    /// There is no database: its definitions were refused, or its journal was not opened.
     Closed,
+    /// The rules of a database with a journal don't change while it is open.
+    Journaled,
+}
+
+/// Why the commits of a journal were not restored.
+#[derive(Clone, Copy, Debug, PartialEq, Eq)]
+pub enum Unrestored {
+    /// The file does not begin as a journal does.
+    Headless,
+    /// It is of other definitions.
+    OfOthers,
+    /// The line of this commit is damaged or missing, which begins at this byte of the file.
+    Damaged { number: u64, at: usize },
+    /// A change of this commit can't be put into the tables that those before it leave.
+    NotDue { number: u64 },
 }
 
 /// What a call answers.
@@ -67,6 +85,19 @@ pub enum Response {
         refusal: Refusal,
     },
     Misused(Misuse),
+    /// The COMMIT of the session of this name is accepted, and could not be kept. Its transaction is still open.
+    NotKept(Text),
+    /// There is no database, since its journal was not opened.
+    Unrestored(Unrestored),
+    /// The beginning of a journal's file: its header, and the image of the committed tables.
+    Image(Text),
+}
+
+/// What a call is answered: by one response, or by one to each of its events, in their order.
+#[derive(Drop)]
+pub enum Outcome {
+    One(Response),
+    Each(Items<Response>),
 }
 
 /// What a call returns, as `bindings/c/skewguard.h` numbers it.
@@ -85,6 +116,9 @@ pub enum Status {
     BadName,
     NameTaken,
     Closed,
+    NotKept,
+    Journaled,
+    Unrestored,
 }
 
 /// The number of a status at C.
@@ -104,6 +138,9 @@ pub fn status_number(status: Status) -> i32
         Status::BadName => 9,
         Status::NameTaken => 10,
         Status::Closed => 11,
+        Status::NotKept => 12,
+        Status::Journaled => 13,
+        Status::Unrestored => 14,
     }
 }
 
@@ -137,6 +174,7 @@ fn status_of_misuse(misuse: Misuse) -> Status
         Misuse::BadName => Status::BadName,
         Misuse::NameTaken => Status::NameTaken,
         Misuse::Closed => Status::Closed,
+        Misuse::Journaled => Status::Journaled,
     }
 }
 
@@ -148,16 +186,66 @@ pub fn status_of(response: &Response) -> Status
         Response::Answered { answer, .. } => status_of_answer(answer),
         Response::Refused { refusal, .. } => status_of_refusal(refusal),
         Response::Misused(misuse) => status_of_misuse(*misuse),
+        Response::NotKept(_) => Status::NotKept,
+        Response::Unrestored(_) => Status::Unrestored,
         _ => Status::Done,
     }
 }
 
-/// The status where there was no memory for the bytes.
-pub fn status_without_reply(status: Status) -> Status
+fn is_done_status(status: Status) -> bool
+    ensures { result ≡ spec.is_done_status status }
+{
+    match status {
+        Status::Done => true,
+        _ => false,
+    }
+}
+
+/// Whether what was asked for has been done.
+pub fn is_done(response: &Response) -> bool
+    ensures { result ≡ spec.is_done response.now }
+{
+    is_done_status(status_of(response))
+}
+
+/// The status of several: that of the first that was not done.
+fn status_of_each(responses: &[Response]) -> Status
+    ensures { result ≡ spec.status_of_each responses.now }
+{
+    for response in responses {
+        if !is_done(response) {
+            return status_of(response);
+        }
+    }
+    Status::Done
+}
+
+/// The status of a call.
+pub fn status_of_outcome(outcome: &Outcome) -> Status
+    ensures { result ≡ spec.status_of_outcome outcome.now }
+{
+    match outcome {
+        Outcome::One(response) => status_of(response),
+        Outcome::Each(responses) => status_of_each(responses.as_slice()),
+    }
+}
+
+/// The status of one response where there was no memory for its bytes.
+fn status_without_reply(status: Status) -> Status
     ensures { result ≡ spec.status_without_reply status }
 {
     match status {
         Status::NoMemory => Status::NoMemory,
         _ => Status::ReplyWaits,
+    }
+}
+
+/// The status of a call where there was no memory for the bytes. What several events have done has to be told by them.
+pub fn status_of_waiting(outcome: &Outcome) -> Status
+    ensures { result ≡ spec.status_of_waiting outcome.now }
+{
+    match outcome {
+        Outcome::One(response) => status_without_reply(status_of(response)),
+        Outcome::Each(_) => Status::ReplyWaits,
     }
 }

@@ -3,7 +3,7 @@
 use crate::layouts::Layout;
 use alone::Answer;
 use history::{End, History, Read, Transaction, are_apart, conflict_between};
-use std::alloc::{AllocError, Global};
+use std::alloc::AllocError;
 use value::{Party, Refusal};
 
 /// At most so many arrows are drawn.
@@ -30,26 +30,25 @@ pub struct Arrow<'a> {
     pub read: Option<&'a Read>,
 }
 
-/// The arrows between transactions that are drawn, those of refusals first, and how many more there are.
-pub fn arrows_of<'a>(
-    alloc: Global,
+/// Lists the arrows between transactions that are drawn, those of refusals first, and answers how many more there are.
+pub fn push_arrows<'a>(
     history: &'a History,
     layout: &Layout,
-) -> Result<(Vec<Arrow<'a>>, usize), AllocError> {
-    let mut arrows = Vec::new(alloc);
+    arrows: &mut Vec<Arrow<'a>>,
+) -> Result<usize, AllocError> {
     for place in &layout.boxes {
-        push_refused(history, layout, *place, &mut arrows)?;
+        push_refused(history, layout, *place, arrows)?;
     }
     for from in &layout.boxes {
         for to in &layout.boxes {
             if let Some(arrow) = conflict_of(history, *from, *to) {
-                push_new(arrow, &mut arrows)?;
+                push_new(arrow, arrows)?;
             }
         }
     }
     let left = arrows.len().saturating_sub(MOST_ARROWS);
     arrows.truncate(MOST_ARROWS);
-    Ok((arrows, left))
+    Ok(left)
 }
 
 /// Puts an arrow behind the others, unless one is there from the one transaction to the other.

@@ -2,39 +2,26 @@
 
 use crate::colours::{CODE, COMMITTED, INK, PALE, RED_INK, REFUSED, ROUND, SMALL, SQUARE, UNDONE};
 use crate::scenes::Scene;
-use crate::svg::{Anchor, Area, Point, add_area, add_cut, add_text, add_title};
-use crate::words::{add_ending, add_event, add_last_event, add_place, add_summary};
-use alone::Answer;
+use crate::svg::{Anchor, Area, Canvas, Point};
+use crate::words::{add_ending, add_last_event, add_place, add_summary};
 use history::{End, Transaction};
-use std::alloc::{AllocError, Global};
 
 /// Adds the box of a transaction, from its BEGIN to its last event.
-pub fn add_box(
-    alloc: Global,
-    scene: Scene<'_>,
-    it: &Transaction,
-    out: &mut String,
-) -> Result<(), AllocError> {
-    out.push_str("<g>\n")?;
-    let mut title = String::new(alloc);
-    add_summary(scene.history, it, &mut title)?;
-    add_title(title.as_str(), out)?;
+pub fn add_box(scene: Scene<'_>, it: &Transaction, canvas: &mut Canvas) {
+    canvas.svg.add("<g>\n");
+    add_summary(scene.history, it, &mut canvas.text);
+    canvas.add_title();
     let corners = if it.read_only { ROUND } else { SQUARE };
-    add_area(area_of(scene, it), &[corners, colours_of(it.end)], out)?;
-    out.push_str("</g>\n")
+    canvas.add_area(area_of(scene, it), &[corners, colours_of(it.end)]);
+    canvas.svg.add("</g>\n");
 }
 
 /// Adds the texts of a box.
-pub fn add_texts(
-    alloc: Global,
-    scene: Scene<'_>,
-    it: &Transaction,
-    out: &mut String,
-) -> Result<(), AllocError> {
+pub fn add_texts(scene: Scene<'_>, it: &Transaction, canvas: &mut Canvas) {
     if scene.layout.is_written {
-        add_events(alloc, scene, it, out)
+        add_events(scene, it, canvas);
     } else {
-        add_ends(alloc, scene, it, out)
+        add_ends(scene, it, canvas);
     }
 }
 
@@ -60,27 +47,24 @@ fn colours_of(end: End) -> &'static str {
 }
 
 /// Adds the two lines of a box whose events are not written out.
-fn add_ends(
-    alloc: Global,
-    scene: Scene<'_>,
-    it: &Transaction,
-    out: &mut String,
-) -> Result<(), AllocError> {
-    let snapshot = it.snapshot;
-    let first = format!(in alloc; "sees {snapshot}")?;
-    let point = point_in(scene, it, it.begun);
-    add_text(point, Anchor::Start, &[SMALL, PALE], first.as_str(), out)?;
+fn add_ends(scene: Scene<'_>, it: &Transaction, canvas: &mut Canvas) {
+    canvas.text.add("sees ");
+    canvas.text.show(it.snapshot);
+    add_end(scene, it, it.begun, PALE, canvas);
     if it.ended == it.begun {
-        return Ok(());
+        return;
     }
-    let mut last = String::new(alloc);
     match it.end {
-        End::Committed => add_place(scene.history, it.number, &mut last)?,
-        _ => add_ending(scene.history, it, &mut last)?,
+        End::Committed => add_place(scene.history, it.number, &mut canvas.text),
+        _ => add_ending(scene.history, it, &mut canvas.text),
     }
-    let ink = ink_of(it.end == End::Refused);
-    let point = point_in(scene, it, it.ended);
-    add_text(point, Anchor::Start, &[SMALL, ink], last.as_str(), out)
+    add_end(scene, it, it.ended, ink_of(it.end == End::Refused), canvas);
+}
+
+/// Adds the text as a line of a box whose events are not written out.
+fn add_end(scene: Scene<'_>, it: &Transaction, event: usize, ink: &str, canvas: &mut Canvas) {
+    let point = point_in(scene, it, event);
+    canvas.add_text(point, Anchor::Start, &[SMALL, ink], usize::MAX);
 }
 
 /// Where the text of an event stands.
@@ -97,47 +81,30 @@ fn ink_of(is_refused: bool) -> &'static str {
 }
 
 /// Adds the events of a box.
-fn add_events(
-    alloc: Global,
-    scene: Scene<'_>,
-    it: &Transaction,
-    out: &mut String,
-) -> Result<(), AllocError> {
+fn add_events(scene: Scene<'_>, it: &Transaction, canvas: &mut Canvas) {
     for event in &scene.layout.rows {
         let Some(happening) = scene.history.events.as_slice().get(*event) else {
             continue;
         };
         if happening.session == it.session && it.begun <= *event && *event <= it.ended {
-            add_line(alloc, scene, it, *event, &happening.answer, out)?;
+            add_line(scene, it, *event, ink_of(happening.is_refused()), canvas);
         }
     }
-    Ok(())
 }
 
-/// Adds an event of a box, in red where it was refused.
-fn add_line(
-    alloc: Global,
-    scene: Scene<'_>,
-    it: &Transaction,
-    event: usize,
-    answer: &Answer,
-    out: &mut String,
-) -> Result<(), AllocError> {
-    let mut whole = String::new(alloc);
+/// Adds an event of a box.
+fn add_line(scene: Scene<'_>, it: &Transaction, event: usize, ink: &str, canvas: &mut Canvas) {
     if event == it.ended && it.end != End::Open {
-        add_last_event(scene.history, it, &mut whole)?;
+        add_last_event(scene.history, it, &mut canvas.text);
     } else {
-        add_event(alloc, scene.events, scene.script, event, &mut whole)?;
+        scene
+            .events
+            .add_event(scene.script, event, &mut canvas.text);
     }
-    let mut text = String::new(alloc);
-    add_cut(whole.as_str(), scene.layout.most_characters(), &mut text)?;
-    let ink = ink_of(matches!(answer, Answer::Refused(_)));
-    let point = point_in(scene, it, event);
-    add_text(
-        point,
+    canvas.add_text(
+        point_in(scene, it, event),
         Anchor::Start,
         &[SMALL, CODE, ink],
-        text.as_str(),
-        out,
-    )
+        scene.layout.most_columns(),
+    );
 }

@@ -4,9 +4,10 @@ use crate::arrows::{Arrow, Kind};
 use crate::colours::{ARROW, BADGE, BOLD, ON_BADGE, RED_ARROW, RED_BADGE, RED_TIE, TINY};
 use crate::layouts::Layout;
 use crate::scenes::Scene;
-use crate::svg::{Anchor, Point, add_text, add_title};
+use crate::svg::{Anchor, Canvas, Point};
 use crate::words::add_meaning;
-use std::alloc::{AllocError, Global};
+use printout::Printout;
+use std::alloc::AllocError;
 
 /// Where a number may stand on its curve, in sixteenths of the way, the best places first.
 const STEPS: [u32; 14] = [4, 3, 5, 2, 6, 1, 7, 8, 9, 10, 11, 12, 13, 14];
@@ -56,22 +57,21 @@ fn between(step: u32, from: u32, to: u32) -> u32 {
     before.saturating_add(to.saturating_mul(step)) / 16
 }
 
-/// Adds the lines of arrows, and gives where the number of each stands.
+/// Adds the lines of arrows, and lists where the number of each stands.
 pub fn add_arrows(
-    alloc: Global,
     scene: Scene<'_>,
     arrows: &[Arrow<'_>],
-    out: &mut String,
-) -> Result<Vec<Point>, AllocError> {
-    let mut badges = Vec::new(alloc);
+    badges: &mut Vec<Point>,
+    canvas: &mut Canvas,
+) -> Result<(), AllocError> {
     for arrow in arrows {
         if let Some(curve) = curve_of(scene, *arrow) {
-            add_arrow(alloc, scene, *arrow, curve, out)?;
+            add_arrow(scene, *arrow, curve, canvas);
             let badge = badge_on(scene.layout, curve, badges.as_slice());
             badges.push(badge)?;
         }
     }
-    Ok(badges)
+    Ok(())
 }
 
 /// The curve of an arrow: from the event that read to the end of the other transaction.
@@ -136,71 +136,59 @@ fn is_near(one: Point, other: Point) -> bool {
 }
 
 /// Adds the line of an arrow, with what it is of for a pointer over it.
-fn add_arrow(
-    alloc: Global,
-    scene: Scene<'_>,
-    arrow: Arrow<'_>,
-    curve: Curve,
-    out: &mut String,
-) -> Result<(), AllocError> {
-    out.push_str("<g>\n")?;
-    let mut title = String::new(alloc);
-    add_meaning(scene.history, arrow, &mut title)?;
-    add_title(title.as_str(), out)?;
-    add_curve(curve, arrow.kind, out)?;
-    out.push_str("</g>\n")
-}
-
-/// Adds the line of an arrow, with its head.
-fn add_curve(curve: Curve, kind: Kind, out: &mut String) -> Result<(), AllocError> {
-    let (line, head) = match kind {
+fn add_arrow(scene: Scene<'_>, arrow: Arrow<'_>, curve: Curve, canvas: &mut Canvas) {
+    canvas.svg.add("<g>\n");
+    add_meaning(scene.history, arrow, &mut canvas.text);
+    canvas.add_title();
+    let (line, head) = match arrow.kind {
         Kind::Conflict => (ARROW, " marker-end=\"url(#head)\""),
         Kind::Danger => (RED_ARROW, " marker-end=\"url(#redhead)\""),
         Kind::Overwrite => (RED_TIE, ""),
     };
-    let (Point { x: x1, y: y1 }, Point { x: x2, y: y2 }) = (curve.from, curve.to);
+    add_curve(curve, &mut canvas.svg);
+    canvas.svg.add_all(&[line, head, "/>\n</g>\n"]);
+}
+
+/// Adds the beginning of a path along a curve.
+fn add_curve(curve: Curve, svg: &mut Printout) {
     let middle = curve.middle();
-    write!(
-        out,
-        "<path d=\"M{x1} {y1}C{middle} {y1} {middle} {y2} {x2} {y2}\" {line}{head}/>\n"
-    )
+    svg.add("<path d=\"M");
+    add_pair(curve.from.x, curve.from.y, "C", svg);
+    add_pair(middle, curve.from.y, " ", svg);
+    add_pair(middle, curve.to.y, " ", svg);
+    add_pair(curve.to.x, curve.to.y, "\" ", svg);
+}
+
+/// Adds two numbers, and what stands behind them.
+fn add_pair(x: u32, y: u32, behind: &str, svg: &mut Printout) {
+    svg.show(x);
+    svg.add(" ");
+    svg.show(y);
+    svg.add(behind);
 }
 
 /// Adds the numbers of arrows, each on a badge at its point.
-pub fn add_badges(
-    alloc: Global,
-    arrows: &[Arrow<'_>],
-    badges: &[Point],
-    out: &mut String,
-) -> Result<(), AllocError> {
+pub fn add_badges(arrows: &[Arrow<'_>], badges: &[Point], canvas: &mut Canvas) {
     for (place, (arrow, badge)) in arrows.iter().zip(badges.iter()).enumerate() {
-        add_badge(alloc, *badge, arrow.kind, place.saturating_add(1), out)?;
+        add_badge(*badge, arrow.kind, place.saturating_add(1), canvas);
     }
-    Ok(())
 }
 
 /// Adds the number of an arrow on its badge.
-fn add_badge(
-    alloc: Global,
-    badge: Point,
-    kind: Kind,
-    number: usize,
-    out: &mut String,
-) -> Result<(), AllocError> {
-    let Point { x, y } = badge;
+fn add_badge(badge: Point, kind: Kind, number: usize, canvas: &mut Canvas) {
     let colour = match kind {
         Kind::Conflict => BADGE,
         Kind::Danger | Kind::Overwrite => RED_BADGE,
     };
-    write!(out, "<circle cx=\"{x}\" cy=\"{y}\" r=\"8\" {colour}/>\n")?;
-    let text = format!(in alloc; "{number}")?;
-    let y = y.saturating_add(4);
-    let attributes = [TINY, BOLD, ON_BADGE];
-    add_text(
-        Point { x, y },
-        Anchor::Middle,
-        &attributes,
-        text.as_str(),
-        out,
-    )
+    canvas.svg.add("<circle cx=\"");
+    canvas.svg.show(badge.x);
+    canvas.svg.add("\" cy=\"");
+    canvas.svg.show(badge.y);
+    canvas.svg.add_all(&["\" r=\"8\" ", colour, "/>\n"]);
+    canvas.text.show(number);
+    let point = Point {
+        x: badge.x,
+        y: badge.y.saturating_add(4),
+    };
+    canvas.add_text(point, Anchor::Middle, &[TINY, BOLD, ON_BADGE], usize::MAX);
 }

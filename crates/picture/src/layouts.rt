@@ -1,8 +1,9 @@
 //! What is drawn, and where.
 
-use crate::words::add_event;
 use history::{History, Source, Transaction};
+use printout::Printout;
 use std::alloc::{AllocError, Global};
+use unicode_width::UnicodeWidthStr;
 
 /// At most so many sessions are drawn.
 const MOST_LANES: usize = 12;
@@ -23,7 +24,7 @@ const LEFT: u32 = 52;
 const RIGHT: u32 = 16;
 /// The least width of the whole, for the legend.
 const LEAST_WIDTH: u32 = 760;
-/// The width of a character of a statement.
+/// The width of a column of a statement.
 const LETTER: u32 = 7;
 /// The least width of a lane whose events are written out.
 const LEAST_LANE: u32 = 170;
@@ -45,38 +46,43 @@ pub struct Layout {
 }
 
 impl Layout {
-    /// What is drawn of a history: the first sessions, their first transactions, and of these all events, or, where
-    /// they are many, the first and the last.
-    pub fn of(
-        alloc: Global,
+    /// Nothing is drawn.
+    pub fn new(alloc: Global) -> Layout {
+        Layout {
+            lanes: Vec::new(alloc),
+            boxes: Vec::new(alloc),
+            rows: Vec::new(alloc),
+            is_written: false,
+            lane_width: NARROW_LANE,
+        }
+    }
+
+    /// Takes in what is drawn of a history, where nothing was: the first sessions, their first transactions, and of
+    /// these all events, or, where they are many, the first and the last. The events are told by a text that is empty
+    /// before and afterwards.
+    pub fn take_in(
+        &mut self,
         history: &History,
         events: &Source,
         script: &[u8],
-    ) -> Result<Layout, AllocError> {
-        let lanes = lanes_of(alloc, history)?;
-        let boxes = boxes_of(alloc, history, lanes.as_slice())?;
-        let rows = rows_of(alloc, history, boxes.as_slice(), true)?;
-        if lanes.len() <= MOST_WRITTEN_LANES && rows.len() <= MOST_WRITTEN_ROWS {
-            let longest = longest_text(alloc, events, script, rows.as_slice())?;
-            return Ok(Layout {
-                lane_width: written_width(longest, lanes.len()),
-                lanes,
-                boxes,
-                rows,
-                is_written: true,
-            });
+        text: &mut Printout,
+    ) -> Result<(), AllocError> {
+        push_lanes(history, &mut self.lanes)?;
+        push_boxes(history, self.lanes.as_slice(), &mut self.boxes)?;
+        push_rows(history, self.boxes.as_slice(), true, &mut self.rows)?;
+        self.is_written = self.lanes.len() <= MOST_WRITTEN_LANES
+            && self.rows.len() <= MOST_WRITTEN_ROWS;
+        if self.is_written {
+            let longest = longest_text(events, script, self.rows.as_slice(), text)?;
+            self.lane_width = written_width(longest, self.lanes.len());
+            return Ok(());
         }
-        Ok(Layout {
-            rows: rows_of(alloc, history, boxes.as_slice(), false)?,
-            lanes,
-            boxes,
-            is_written: false,
-            lane_width: NARROW_LANE,
-        })
+        self.rows.clear();
+        push_rows(history, self.boxes.as_slice(), false, &mut self.rows)
     }
 
-    /// How many characters of a statement fit into a lane.
-    pub fn most_characters(&self) -> usize {
+    /// How many columns of a statement fit into a lane.
+    pub fn most_columns(&self) -> usize {
         (self.lane_width / LETTER) as usize
     }
 
@@ -127,7 +133,7 @@ impl Layout {
     }
 }
 
-/// The width of lanes in which texts of so many characters at most are written out.
+/// The width of lanes in which texts of so many columns at most are written out.
 fn written_width(longest: usize, lanes: usize) -> u32 {
     let most = match lanes {
         0..=2 => 370,
@@ -138,18 +144,18 @@ fn written_width(longest: usize, lanes: usize) -> u32 {
     width.max(LEAST_LANE).min(most)
 }
 
-/// How many characters the longest text of these events has.
+/// How many columns the longest text of these events takes.
 fn longest_text(
-    alloc: Global,
     events: &Source,
     script: &[u8],
     rows: &[usize],
+    text: &mut Printout,
 ) -> Result<usize, AllocError> {
     let mut longest = 0usize;
     for event in rows {
-        let mut text = String::new(alloc);
-        add_event(alloc, events, script, *event, &mut text)?;
-        longest = longest.max(text.len());
+        events.add_event(script, *event, text);
+        longest = longest.max(text.text()?.width());
+        text.clear();
     }
     Ok(longest)
 }
@@ -159,36 +165,37 @@ fn as_u32(number: usize) -> u32 {
     u32::try_from(number).unwrap_or(u32::MAX)
 }
 
-/// The first sessions that have a transaction.
-fn lanes_of(alloc: Global, history: &History) -> Result<Vec<usize>, AllocError> {
-    let mut lanes: Vec<usize> = Vec::new(alloc);
+/// Lists the first sessions that have a transaction.
+fn push_lanes(history: &History, lanes: &mut Vec<usize>) -> Result<(), AllocError> {
     for it in &history.transactions {
         if lanes.len() < MOST_LANES && !lanes.contains(&it.session) {
             lanes.push(it.session)?;
         }
     }
-    Ok(lanes)
+    Ok(())
 }
 
-/// The first transactions of these sessions.
-fn boxes_of(alloc: Global, history: &History, lanes: &[usize]) -> Result<Vec<usize>, AllocError> {
-    let mut boxes = Vec::new(alloc);
+/// Lists the first transactions of these sessions.
+fn push_boxes(
+    history: &History,
+    lanes: &[usize],
+    boxes: &mut Vec<usize>,
+) -> Result<(), AllocError> {
     for (place, it) in history.transactions.iter().enumerate() {
         if boxes.len() < MOST_BOXES && lanes.contains(&it.session) {
             boxes.push(place)?;
         }
     }
-    Ok(boxes)
+    Ok(())
 }
 
-/// The events of these transactions: all of them, or the first and the last.
-fn rows_of(
-    alloc: Global,
+/// Lists the events of these transactions: all of them, or the first and the last.
+fn push_rows(
     history: &History,
     boxes: &[usize],
     are_all: bool,
-) -> Result<Vec<usize>, AllocError> {
-    let mut rows = Vec::new(alloc);
+    rows: &mut Vec<usize>,
+) -> Result<(), AllocError> {
     for (event, happening) in history.events.iter().enumerate() {
         let Some(place) = happening.transaction else {
             continue;
@@ -203,7 +210,7 @@ fn rows_of(
             rows.push(event)?;
         }
     }
-    Ok(rows)
+    Ok(())
 }
 
 /// Whether a transaction begins or ends at an event.

@@ -2,8 +2,7 @@
 
 use crate::colours::{ARROW, COMMITTED, MIDDLING, PALE, RED_ARROW, RED_TIE, REFUSED, UNDONE};
 use crate::layouts::ROW;
-use crate::svg::{Anchor, Area, Point, add_area, add_text};
-use std::alloc::AllocError;
+use crate::svg::{Anchor, Area, Canvas, Point};
 
 /// Boxes, by their colours.
 const BOXES: [(&str, &str); 3] = [
@@ -42,43 +41,41 @@ const ARROWS: [(&str, &str, &str); 3] = [
 
 /// Adds what the signs mean, from a height on, and gives where the picture ends. That of a box that is read only is
 /// among them where there is one.
-pub fn add_legend(y: u32, has_reader: bool, out: &mut String) -> Result<u32, AllocError> {
+pub fn add_legend(y: u32, has_reader: bool, canvas: &mut Canvas) -> u32 {
     let mut y = y.saturating_add(10);
     for (colours, text) in &BOXES {
-        y = add_box(y, &["rx=\"3\"", colours], text, out)?;
-    }
-    if has_reader {
-        y = add_box(y, &["rx=\"7\"", COMMITTED], READER, out)?;
-    }
-    for (colours, head, text) in &ARROWS {
-        let middle = y.saturating_sub(4);
-        write!(out, "<path d=\"M8 {middle}H42\" {colours}{head}/>\n")?;
-        add_meaning(y, text, out)?;
+        add_box(y, &["rx=\"3\"", colours], text, canvas);
         y = y.saturating_add(ROW - 2);
     }
-    Ok(y)
+    if has_reader {
+        add_box(y, &["rx=\"7\"", COMMITTED], READER, canvas);
+        y = y.saturating_add(ROW - 2);
+    }
+    for (colours, head, text) in &ARROWS {
+        canvas.svg.add("<path d=\"M8 ");
+        canvas.svg.show(y.saturating_sub(4));
+        canvas.svg.add_all(&["H42\" ", colours, head, "/>\n"]);
+        add_meaning(y, text, canvas);
+        y = y.saturating_add(ROW - 2);
+    }
+    y
 }
 
-/// Adds a box with its meaning, at a height, and gives that of the next sign.
-fn add_box(y: u32, looks: &[&str], text: &str, out: &mut String) -> Result<u32, AllocError> {
+/// Adds a box with its meaning, at a height.
+fn add_box(y: u32, looks: &[&str], text: &str, canvas: &mut Canvas) {
     let area = Area {
         x: 8,
         y: y.saturating_sub(11),
         width: 34,
         height: 14,
     };
-    add_area(area, looks, out)?;
-    add_meaning(y, text, out)?;
-    Ok(y.saturating_add(ROW - 2))
+    canvas.add_area(area, looks);
+    add_meaning(y, text, canvas);
 }
 
 /// Adds the meaning of a sign.
-fn add_meaning(y: u32, text: &str, out: &mut String) -> Result<(), AllocError> {
-    add_text(
-        Point { x: 52, y },
-        Anchor::Start,
-        &[MIDDLING, PALE],
-        text,
-        out,
-    )
+fn add_meaning(y: u32, text: &str, canvas: &mut Canvas) {
+    canvas.text.add(text);
+    let point = Point { x: 52, y };
+    canvas.add_text(point, Anchor::Start, &[MIDDLING, PALE], usize::MAX);
 }

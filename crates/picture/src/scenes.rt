@@ -2,7 +2,6 @@
 
 use crate::layouts::Layout;
 use history::{History, Source, Transaction};
-use value::Text;
 
 /// A run of a script, the texts of its events, and where they stand.
 #[derive(Clone, Copy)]
@@ -14,11 +13,6 @@ pub struct Scene<'a> {
 }
 
 impl<'a> Scene<'a> {
-    /// The name of a session.
-    pub fn session(self, session: usize) -> Option<&'a Text> {
-        self.history.sessions.as_slice().get(session)
-    }
-
     /// A transaction by its place in the history.
     pub fn transaction(self, place: usize) -> Option<&'a Transaction> {
         self.history.transactions.as_slice().get(place)

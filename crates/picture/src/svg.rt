@@ -1,6 +1,8 @@
-//! Elements of SVG 1.1, put behind a text.
+//! Elements of SVG 1.1, put behind one another.
 
-use std::alloc::AllocError;
+use printout::Printout;
+use std::alloc::{AllocError, Global};
+use unicode_width::{UnicodeWidthChar, UnicodeWidthStr};
 
 /// How a text stands at its point.
 #[derive(Clone, Copy, Debug, PartialEq, Eq)]
@@ -25,79 +27,121 @@ pub struct Area {
     pub height: u32,
 }
 
-/// Adds a text with each character escaped that has a meaning in XML. What is no printable character of ASCII becomes a
-/// question mark.
-fn add_escaped(text: &str, out: &mut String) -> Result<(), AllocError> {
-    for character in text.chars() {
-        match character {
-            '&' => out.push_str("&amp;")?,
-            '<' => out.push_str("&lt;")?,
-            '>' => out.push_str("&gt;")?,
-            '"' => out.push_str("&quot;")?,
-            ' '..='~' => out.push(character)?,
-            _ => out.push('?')?,
+/// The elements so far, and the text of the next one. A text is put together first, and then cut and escaped. One that
+/// found no memory stays, and takes no more: so want of memory is noted as a [`Printout`] notes it.
+#[derive(Drop)]
+pub struct Canvas {
+    pub svg: Printout,
+    pub text: Printout,
+}
+
+impl Canvas {
+    /// No element, and no text.
+    pub fn new(alloc: Global) -> Canvas {
+        Canvas {
+            svg: Printout::new(alloc),
+            text: Printout::new(alloc),
         }
     }
-    Ok(())
-}
 
-/// Adds attributes, each behind a space.
-fn add_attributes(attributes: &[&str], out: &mut String) -> Result<(), AllocError> {
-    for attribute in attributes {
-        write!(out, " {attribute}")?;
+    /// The elements.
+    ///
+    /// # Errors
+    ///
+    /// Where an element or a text found no memory.
+    pub fn elements(&self) -> Result<&str, AllocError> {
+        self.text.text()?;
+        self.svg.text()
     }
-    Ok(())
-}
 
-/// Adds the text of an element at a point, with these attributes beside its place.
-pub fn add_text(
-    point: Point,
-    anchor: Anchor,
-    attributes: &[&str],
-    text: &str,
-    out: &mut String,
-) -> Result<(), AllocError> {
-    let Point { x, y } = point;
-    write!(out, "<text x=\"{x}\" y=\"{y}\"")?;
-    add_attributes(attributes, out)?;
-    if anchor == Anchor::Middle {
-        out.push_str(" text-anchor=\"middle\"")?;
+    /// Adds the text as an element at a point, of so many columns at most, with these attributes beside its place.
+    pub fn add_text(&mut self, point: Point, anchor: Anchor, attributes: &[&str], most: usize) {
+        self.svg.add("<text");
+        self.add_sizes(&[("x", point.x), ("y", point.y)]);
+        self.add_attributes(attributes);
+        if anchor == Anchor::Middle {
+            self.svg.add(" text-anchor=\"middle\"");
+        }
+        self.svg.add(">");
+        self.move_text(most);
+        self.svg.add("</text>\n");
     }
-    out.push_str(">")?;
-    add_escaped(text, out)?;
-    out.push_str("</text>\n")
-}
 
-/// Adds a rectangle with these attributes.
-pub fn add_area(area: Area, attributes: &[&str], out: &mut String) -> Result<(), AllocError> {
-    let Area {
-        x,
-        y,
-        width,
-        height,
-    } = area;
-    write!(
-        out,
-        "<rect x=\"{x}\" y=\"{y}\" width=\"{width}\" height=\"{height}\""
-    )?;
-    add_attributes(attributes, out)?;
-    out.push_str("/>\n")
-}
-
-/// Adds what a pointer shows over an element.
-pub fn add_title(text: &str, out: &mut String) -> Result<(), AllocError> {
-    out.push_str("<title>")?;
-    add_escaped(text, out)?;
-    out.push_str("</title>\n")
-}
-
-/// The first so many characters of a text, and two dots where it is longer.
-pub fn add_cut(text: &str, most: usize, out: &mut String) -> Result<(), AllocError> {
-    if text.len() <= most {
-        return out.push_str(text);
+    /// Adds a rectangle with these attributes.
+    pub fn add_area(&mut self, area: Area, attributes: &[&str]) {
+        self.svg.add("<rect");
+        self.add_sizes(&[
+            ("x", area.x),
+            ("y", area.y),
+            ("width", area.width),
+            ("height", area.height),
+        ]);
+        self.add_attributes(attributes);
+        self.svg.add("/>\n");
     }
-    for character in text.chars().take(most.saturating_sub(2)) {
-        out.push(character)?;
+
+    /// Adds the text as what a pointer shows over an element.
+    pub fn add_title(&mut self) {
+        self.svg.add("<title>");
+        self.move_text(usize::MAX);
+        self.svg.add("</title>\n");
     }
-    out.push_str("..")
+
+    /// Adds attributes whose values are numbers, each behind a space.
+    fn add_sizes(&mut self, sizes: &[(&str, u32)]) {
+        for (name, size) in sizes {
+            self.svg.add_all(&[" ", name, "=\""]);
+            self.svg.show(*size);
+            self.svg.add("\"");
+        }
+    }
+
+    /// Adds attributes, each behind a space.
+    fn add_attributes(&mut self, attributes: &[&str]) {
+        for attribute in attributes {
+            self.svg.add_all(&[" ", attribute]);
+        }
+    }
+
+    /// Adds the text, cut after so many columns and escaped, and empties it.
+    fn move_text(&mut self, most: usize) {
+        if let Ok(text) = self.text.text() {
+            add_cut(text, most, &mut self.svg);
+            self.text.clear();
+        }
+    }
+}
+
+/// Adds a text, escaped. Of one with more columns than these the first ones are added, and two dots.
+fn add_cut(text: &str, most: usize, svg: &mut Printout) {
+    let is_whole = text.width() <= most;
+    let room = if is_whole {
+        usize::MAX
+    } else {
+        most.saturating_sub(2)
+    };
+    let mut columns = 0usize;
+    for character in text.chars() {
+        // (one that has no width is shown as a question mark)
+        columns = columns.saturating_add(character.width().unwrap_or(1));
+        if columns > room {
+            break;
+        }
+        add_escaped(character, svg);
+    }
+    svg.add(if is_whole { "" } else { ".." });
+}
+
+/// Adds a character, escaped where it has a meaning in XML. A control character, or one that XML has not, becomes a
+/// question mark.
+fn add_escaped(character: char, svg: &mut Printout) {
+    match character {
+        '&' => svg.add("&amp;"),
+        '<' => svg.add("&lt;"),
+        '>' => svg.add("&gt;"),
+        '"' => svg.add("&quot;"),
+        '\u{fffe}' | '\u{ffff}' => svg.add("?"),
+        other if other.is_control() => svg.add("?"),
+        other => svg.add_character(other),
+    }
 }

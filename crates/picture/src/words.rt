@@ -1,67 +1,45 @@
-//! Transactions, events and conflicts in words.
+//! Transactions and conflicts in words.
 
 use crate::arrows::Arrow;
 use alone::Answer;
-use history::{End, History, Source, Transaction, add_key};
-use std::alloc::{AllocError, Global};
+use history::{End, History, Transaction};
+use printout::Printout;
 use value::Refusal;
 
-/// Adds the text of an event without its session.
-pub fn add_event(
-    alloc: Global,
-    events: &Source,
-    script: &[u8],
-    event: usize,
-    out: &mut String,
-) -> Result<(), AllocError> {
-    let mut whole = String::new(alloc);
-    events.add_piece(script, event, &mut whole)?;
-    match whole.as_str().split_once(':') {
-        Some((_, text)) => out.push_str(text.trim()),
-        None => Ok(()),
-    }
-}
-
 /// Adds the event that ended a transaction, with what became of it.
-pub fn add_last_event(
-    history: &History,
-    it: &Transaction,
-    out: &mut String,
-) -> Result<(), AllocError> {
+pub fn add_last_event(history: &History, it: &Transaction, out: &mut Printout) {
     match it.end {
         End::Committed => {
-            out.push_str("COMMIT ")?;
-            add_place(history, it.number, out)
+            out.add("COMMIT ");
+            add_place(history, it.number, out);
         }
         End::Refused => {
-            out.push_str("COMMIT ")?;
-            add_ending(history, it, out)
+            out.add("COMMIT ");
+            add_ending(history, it, out);
         }
-        End::RolledBack | End::Open => out.push_str("ROLLBACK"),
+        End::RolledBack | End::Open => out.add("ROLLBACK"),
     }
 }
 
 /// Adds how a transaction ended.
-pub fn add_ending(history: &History, it: &Transaction, out: &mut String) -> Result<(), AllocError> {
+pub fn add_ending(history: &History, it: &Transaction, out: &mut Printout) {
     match it.end {
         End::Committed => {
-            out.push_str("commit ")?;
-            add_place(history, it.number, out)
+            out.add("commit ");
+            add_place(history, it.number, out);
         }
-        End::Refused => {
-            let fault = fault_of(history, it);
-            write!(out, "refused, {fault}")
-        }
-        End::RolledBack => out.push_str("rolled back"),
-        End::Open => out.push_str("open"),
+        End::Refused => out.add_all(&["refused, ", fault_of(history, it)]),
+        End::RolledBack => out.add("rolled back"),
+        End::Open => out.add("open"),
     }
 }
 
 /// Adds the number of a commit, and its place in the serial order.
-pub fn add_place(history: &History, number: u64, out: &mut String) -> Result<(), AllocError> {
-    match history.place(number) {
-        Some(place) => write!(out, "{number}, place {place}"),
-        None => write!(out, "{number}"),
+pub fn add_place(history: &History, number: u64, out: &mut Printout) {
+    out.show(number);
+    if let Some(place) = history.place(number) {
+        out.add(", place ");
+        out.show(place);
     }
 }
 
@@ -80,58 +58,55 @@ fn fault_of(history: &History, it: &Transaction) -> &'static str {
 }
 
 /// Adds a transaction in a sentence: how it ended, its events, its snapshot and its session.
-pub fn add_summary(
-    history: &History,
-    it: &Transaction,
-    out: &mut String,
-) -> Result<(), AllocError> {
-    add_ending(history, it, out)?;
-    let (first, last) = (it.begun.saturating_add(1), it.ended.saturating_add(1));
-    let snapshot = it.snapshot;
-    write!(out, "; events {first} to {last}, snapshot {snapshot}")?;
+pub fn add_summary(history: &History, it: &Transaction, out: &mut Printout) {
+    add_ending(history, it, out);
+    out.add("; events ");
+    out.show(it.begun.saturating_add(1));
+    out.add(" to ");
+    out.show(it.ended.saturating_add(1));
+    out.add(", snapshot ");
+    out.show(it.snapshot);
     if it.read_only {
-        out.push_str(", read only")?;
+        out.add(", read only");
     }
-    match history.sessions.as_slice().get(it.session) {
-        Some(name) => write!(out, ", session {name}"),
-        None => Ok(()),
+    add_session(", session ", history, it, out);
+}
+
+/// Adds the session of a transaction, behind a text.
+fn add_session(front: &str, history: &History, it: &Transaction, out: &mut Printout) {
+    if let Some(name) = history.session(it.session) {
+        out.add(front);
+        out.show(name);
     }
 }
 
 /// Adds what an arrow says.
-pub fn add_meaning(
-    history: &History,
-    arrow: Arrow<'_>,
-    out: &mut String,
-) -> Result<(), AllocError> {
+pub fn add_meaning(history: &History, arrow: Arrow<'_>, out: &mut Printout) {
     let transactions = history.transactions.as_slice();
     let (Some(from), Some(to)) = (transactions.get(arrow.from), transactions.get(arrow.to)) else {
-        return Ok(());
+        return;
     };
-    add_who(history, from, out)?;
+    add_who(history, from, out);
     match arrow.read {
         Some(read) => {
-            out.push_str(" read ")?;
-            add_key(&history.loaded, &read.key, out)?;
-            out.push_str(", which ")?;
+            out.add(" read ");
+            history.add_key(&read.key, out);
+            out.add(", which ");
         }
-        None => out.push_str(" changed a row that ")?,
+        None => out.add(" changed a row that "),
     }
-    add_who(history, to, out)?;
-    out.push_str(" changed")
+    add_who(history, to, out);
+    out.add(" changed");
 }
 
 /// Adds who a transaction is.
-fn add_who(history: &History, it: &Transaction, out: &mut String) -> Result<(), AllocError> {
+fn add_who(history: &History, it: &Transaction, out: &mut Printout) {
     match it.end {
         End::Committed => {
-            let number = it.number;
-            write!(out, "commit {number}")?;
+            out.add("commit ");
+            out.show(it.number);
         }
-        _ => out.push_str("the refused transaction")?,
+        _ => out.add("the refused transaction"),
     }
-    match history.sessions.as_slice().get(it.session) {
-        Some(name) => write!(out, " of {name}"),
-        None => Ok(()),
-    }
+    add_session(" of ", history, it, out);
 }

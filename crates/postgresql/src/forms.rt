@@ -1,14 +1,14 @@
-//! What the SQL of an assertion is put together from: its bad roots, whether one root is bad, and its candidates.
+//! What the SQL of an assertion is put together from: its bad roots, and whether one root is bad.
 //!
 //! In all of it the row of a table goes by `r`, that of a subquery by `s` and a changed row by `c`. Column names are
 //! quoted and hold no lower-case letter, so no name of the function's own is ever taken for one of them.
 
-use crate::conditions::{Scope, Slot, Slots, add_condition};
+use crate::conditions::{ColumnSlots, NoSlots, Scope, Slots, add_condition};
 use crate::totals;
-use crate::words::{ColumnName, Name, SetFunction};
+use crate::words::{add_column_name, add_name, add_set_function};
 use assertion::{Form, Link, Query, Whole};
 use delta::View;
-use std::alloc::{AllocError, Global};
+use printout::Printout;
 use table::{Aggregate, Column, Cond};
 use value::ColType;
 
@@ -55,30 +55,20 @@ pub fn columns_of(view: &View, table: usize) -> &[Column] {
     }
 }
 
-/// The name of a column of a table.
-pub fn column_name(view: &View, table: usize, place: usize) -> ColumnName<'_> {
-    ColumnName {
-        columns: columns_of(view, table),
-        place,
-    }
+/// Adds the name of a column of a table.
+pub fn add_column_of(sql: &mut Printout, view: &View, table: usize, place: usize) {
+    add_column_name(sql, columns_of(view, table), place);
 }
 
-/// The name of a table's key.
-pub fn key_name(view: &View, table: usize) -> ColumnName<'_> {
-    ColumnName {
-        columns: columns_of(view, table),
-        place: view.key_column(table),
-    }
+/// Adds the name of a table's key.
+pub fn add_key_of(sql: &mut Printout, view: &View, table: usize) {
+    add_column_of(sql, view, table, view.key_column(table));
 }
 
 /// Adds the name of a table.
-pub fn add_table_name(sql: &mut String, view: &View, table: usize) -> Result<(), AllocError> {
-    match view.catalog().name(table) {
-        Some(text) => {
-            let name = Name(text);
-            write!(sql, "{name}")
-        }
-        None => Ok(()),
+pub fn add_table_name(sql: &mut Printout, view: &View, table: usize) {
+    if let Some(name) = view.catalog().name(table) {
+        add_name(sql, name);
     }
 }
 
@@ -102,265 +92,325 @@ fn kind_of(columns: &[Column], place: usize) -> RootKind {
 }
 
 /// Adds a table under a name of a row: `FROM table AS row`.
-pub fn add_source(
-    sql: &mut String,
-    view: &View,
-    table: usize,
-    row: &str,
-) -> Result<(), AllocError> {
-    sql.push_str("FROM ")?;
-    add_table_name(sql, view, table)?;
-    write!(sql, " AS {row}")
+pub fn add_source(sql: &mut Printout, view: &View, table: usize, row: &str) {
+    sql.add("FROM ");
+    add_table_name(sql, view, table);
+    sql.add_all(&[" AS ", row]);
 }
 
 /// Adds a WHERE on a row of a subquery's table. What it asks of the row around is of `r`, a row of that table.
 pub fn add_linked_filter(
-    sql: &mut String,
+    sql: &mut Printout,
     view: &View,
     around: usize,
     query: &Query<Link>,
     row: &str,
-) -> Result<(), AllocError> {
+) {
+    let slots = ColumnSlots {
+        row: "r",
+        columns: columns_of(view, around),
+    };
     let scope = Scope {
         row,
         columns: columns_of(view, query.table),
-        slots: Slots::Columns {
-            row: "r",
-            columns: columns_of(view, around),
-        },
+        slots: &slots,
     };
-    add_condition(sql, &scope, &query.filter)
+    add_condition(sql, &scope, &query.filter);
 }
 
 /// Adds a WHERE on a row of a table, as a condition without slots.
-pub fn add_filter<'a>(
-    sql: &mut String,
-    view: &'a View,
-    table: usize,
-    row: &'a str,
-    filter: &Cond,
-) -> Result<(), AllocError> {
-    let slots = Slots::Given(&[]);
+pub fn add_filter(sql: &mut Printout, view: &View, table: usize, row: &str, filter: &Cond) {
     let scope = Scope {
         row,
         columns: columns_of(view, table),
-        slots,
+        slots: &NoSlots,
     };
-    add_condition(sql, &scope, filter)
+    add_condition(sql, &scope, filter);
 }
 
-/// What a subquery puts into its slot.
-fn slot_of(
-    alloc: Global,
-    view: &View,
-    table: usize,
-    aggregate: Aggregate,
-    source: &str,
-) -> Result<Slot, AllocError> {
-    let function = SetFunction {
-        aggregate,
-        row: "s",
-        columns: columns_of(view, table),
-    };
-    Ok(Slot {
-        value: format!(in alloc; "(SELECT {function} {source})")?,
-        exists: format!(in alloc; "EXISTS (SELECT {source})")?,
-    })
-}
-
-/// What stands in the slots of a condition by rows: subqueries that are linked to the row `r` of a table.
-fn linked_slots(
-    alloc: Global,
-    view: &View,
-    table: usize,
-    queries: &[Query<Link>],
-) -> Result<Vec<Slot>, AllocError> {
-    let mut slots = Vec::new(alloc);
-    for query in queries {
-        slots.push(linked_slot(alloc, view, table, query)?)?;
-    }
-    Ok(slots)
-}
-
-fn linked_slot(
-    alloc: Global,
-    view: &View,
-    table: usize,
-    query: &Query<Link>,
-) -> Result<Slot, AllocError> {
-    let mut source = String::new(alloc);
-    add_source(&mut source, view, query.table, "s")?;
-    let inner = column_name(view, query.table, query.grouping.inner);
-    let outer = column_name(view, table, query.grouping.outer);
-    write!(source, " WHERE s.{inner} = r.{outer} AND ")?;
-    add_linked_filter(&mut source, view, table, query, "s")?;
-    slot_of(alloc, view, query.table, query.aggregate, source.as_str())
-}
-
-/// What stands in the slots of a condition over whole tables.
-fn whole_slots(
-    alloc: Global,
-    view: &View,
-    queries: &[Query<Whole>],
-) -> Result<Vec<Slot>, AllocError> {
-    let mut slots = Vec::new(alloc);
-    for query in queries {
-        slots.push(whole_slot(alloc, view, query)?)?;
-    }
-    Ok(slots)
-}
-
-fn whole_slot(alloc: Global, view: &View, query: &Query<Whole>) -> Result<Slot, AllocError> {
-    let mut source = String::new(alloc);
-    add_source(&mut source, view, query.table, "s")?;
-    source.push_str(" WHERE ")?;
-    add_filter(&mut source, view, query.table, "s", &query.filter)?;
-    slot_of(alloc, view, query.table, query.aggregate, source.as_str())
-}
-
-/// What stands in the slots of HAVING: set functions over the rows of a group.
-fn group_slots(
-    alloc: Global,
-    view: &View,
-    table: usize,
-    aggregates: &[Aggregate],
-) -> Result<Vec<Slot>, AllocError> {
-    let mut slots = Vec::new(alloc);
-    for aggregate in aggregates {
-        let function = SetFunction {
-            aggregate: *aggregate,
-            row: "r",
-            columns: columns_of(view, table),
-        };
-        slots.push(Slot {
-            value: format!(in alloc; "{function}")?,
-            exists: format!(in alloc; "({function} > 0)")?,
-        })?;
-    }
-    Ok(slots)
-}
-
-/// The SQL of an assertion: the query of its bad roots from scratch, as a column `root`, and the body of the test
-/// whether the root `candidate` is bad.
-#[derive(Drop)]
-pub struct RuleSql {
-    pub bad_roots: String,
-    pub is_bad: String,
-}
-
-/// The SQL of an assertion by rows.
-pub fn row_sql(
-    alloc: Global,
-    view: &View,
-    table: usize,
-    condition: &Cond,
-    queries: &[Query<Link>],
-) -> Result<RuleSql, AllocError> {
-    let slots = linked_slots(alloc, view, table, queries)?;
-    let columns = columns_of(view, table);
-    let test = text_over(alloc, columns, slots.as_slice(), condition)?;
-    let mut source = String::new(alloc);
-    add_source(&mut source, view, table, "r")?;
-    let key = key_name(view, table);
-    Ok(RuleSql {
-        bad_roots: format!(in alloc; "SELECT r.{key} AS root {source} WHERE {test}")?,
-        is_bad: format!(in alloc;
-            "    RETURN EXISTS (SELECT {source} WHERE r.{key} = candidate AND {test});\n"
-        )?,
-    })
-}
-
-/// The SQL of an assertion by groups. NULLs are one group, which an equality would not find.
-pub fn group_sql(
-    alloc: Global,
-    view: &View,
-    table: usize,
-    filter: &Cond,
-    group: usize,
-    having: &Cond,
-    aggregates: &[Aggregate],
-) -> Result<RuleSql, AllocError> {
-    let slots = group_slots(alloc, view, table, aggregates)?;
-    let test = having_text(alloc, view, table, group, slots.as_slice(), having)?;
-    let mut kept = String::new(alloc);
-    add_filter(&mut kept, view, table, "r", filter)?;
-    let mut source = String::new(alloc);
-    add_source(&mut source, view, table, "r")?;
-    let name = column_name(view, table, group);
-    let rest = format!(in alloc; "{kept} GROUP BY r.{name} HAVING {test}")?;
-    Ok(RuleSql {
-        bad_roots: format!(in alloc; "SELECT r.{name} AS root {source} WHERE {rest}")?,
-        is_bad: format!(in alloc;
-            "    IF candidate IS NULL THEN
-        RETURN EXISTS (SELECT {source} WHERE r.{name} IS NULL AND {rest});
-    END IF;
-    RETURN EXISTS (SELECT {source} WHERE r.{name} = candidate AND {rest});\n"
-        )?,
-    })
-}
-
-/// HAVING sees one column, the group's value.
-fn having_text(
-    alloc: Global,
-    view: &View,
-    table: usize,
-    group: usize,
-    slots: &[Slot],
-    having: &Cond,
-) -> Result<String, AllocError> {
-    let columns = match columns_of(view, table).get(group..) {
-        Some(columns) => columns,
-        None => &[],
-    };
-    text_over(alloc, columns, slots, having)
-}
-
-/// The SQL of a single condition: from scratch by aggregates, and in the test by these or by totals that are kept.
-pub fn single_sql(
-    alloc: Global,
-    view: &View,
-    rule: usize,
-    condition: &Cond,
-    queries: &[Query<Whole>],
-) -> Result<RuleSql, AllocError> {
-    let test = single_text(alloc, view, condition, queries)?;
-    let is_bad = if totals::are_kept(queries) {
-        let slots = totals::slots(alloc, rule, queries)?;
-        let kept = text_over(alloc, &[], slots.as_slice(), condition)?;
-        format!(in alloc; "    RETURN {kept} IS FALSE;\n")?
-    } else {
-        format!(in alloc; "    RETURN {test} IS FALSE;\n")?
-    };
-    Ok(RuleSql {
-        bad_roots: format!(in alloc; "SELECT NULL::bigint AS root WHERE {test} IS FALSE")?,
-        is_bad,
-    })
-}
-
-/// A single condition, its set functions evaluated from scratch.
-pub fn single_text(
-    alloc: Global,
-    view: &View,
-    condition: &Cond,
-    queries: &[Query<Whole>],
-) -> Result<String, AllocError> {
-    let slots = whole_slots(alloc, view, queries)?;
-    text_over(alloc, &[], slots.as_slice(), condition)
-}
-
-/// A condition on the row `r` of these columns, over slots.
-fn text_over<'a>(
-    alloc: Global,
-    columns: &'a [Column],
-    slots: &'a [Slot],
-    condition: &Cond,
-) -> Result<String, AllocError> {
+/// Adds the condition of a root, over the row `r` of these columns.
+fn add_test<S: Slots>(sql: &mut Printout, columns: &[Column], slots: &S, condition: &Cond) {
     let scope = Scope {
         row: "r",
         columns,
-        slots: Slots::Given(slots),
+        slots,
     };
-    let mut test = String::new(alloc);
-    add_condition(&mut test, &scope, condition)?;
-    Ok(test)
+    add_condition(sql, &scope, condition);
+}
+
+/// In the slots of a condition by rows: subqueries that are linked to the row `r` of a table.
+#[derive(Drop)]
+struct LinkedSlots<'a> {
+    view: &'a View,
+    table: usize,
+    queries: &'a [Query<Link>],
+}
+
+impl Slots for LinkedSlots<'_> {
+    fn add_value(&self, sql: &mut Printout, slot: usize) {
+        match self.queries.get(slot) {
+            Some(query) => {
+                add_selected(sql, self.view, query.table, query.aggregate);
+                add_linked_rows(sql, self.view, self.table, query);
+                sql.add(")");
+            }
+            None => sql.add("NULL"),
+        }
+    }
+
+    fn add_exists(&self, sql: &mut Printout, slot: usize) {
+        match self.queries.get(slot) {
+            Some(query) => {
+                sql.add("EXISTS (SELECT ");
+                add_linked_rows(sql, self.view, self.table, query);
+                sql.add(")");
+            }
+            None => sql.add("FALSE"),
+        }
+    }
+}
+
+/// Adds the head of a subquery, up to its table.
+fn add_selected(sql: &mut Printout, view: &View, table: usize, aggregate: Aggregate) {
+    sql.add("(SELECT ");
+    add_set_function(sql, aggregate, "s", columns_of(view, table));
+    sql.add(" ");
+}
+
+/// Adds the rows of a subquery that are linked to the row `r` of a table.
+fn add_linked_rows(sql: &mut Printout, view: &View, table: usize, query: &Query<Link>) {
+    add_source(sql, view, query.table, "s");
+    sql.add(" WHERE s.");
+    add_column_of(sql, view, query.table, query.grouping.inner);
+    sql.add(" = r.");
+    add_column_of(sql, view, table, query.grouping.outer);
+    sql.add(" AND ");
+    add_linked_filter(sql, view, table, query, "s");
+}
+
+/// In the slots of a condition over whole tables: subqueries of theirs.
+#[derive(Drop)]
+struct WholeSlots<'a> {
+    view: &'a View,
+    queries: &'a [Query<Whole>],
+}
+
+impl Slots for WholeSlots<'_> {
+    fn add_value(&self, sql: &mut Printout, slot: usize) {
+        match self.queries.get(slot) {
+            Some(query) => {
+                add_selected(sql, self.view, query.table, query.aggregate);
+                add_whole_rows(sql, self.view, query);
+                sql.add(")");
+            }
+            None => sql.add("NULL"),
+        }
+    }
+
+    fn add_exists(&self, sql: &mut Printout, slot: usize) {
+        match self.queries.get(slot) {
+            Some(query) => {
+                sql.add("EXISTS (SELECT ");
+                add_whole_rows(sql, self.view, query);
+                sql.add(")");
+            }
+            None => sql.add("FALSE"),
+        }
+    }
+}
+
+fn add_whole_rows(sql: &mut Printout, view: &View, query: &Query<Whole>) {
+    add_source(sql, view, query.table, "s");
+    sql.add(" WHERE ");
+    add_filter(sql, view, query.table, "s", &query.filter);
+}
+
+/// In the slots of HAVING: set functions over the rows of a group.
+#[derive(Drop)]
+struct GroupSlots<'a> {
+    columns: &'a [Column],
+    aggregates: &'a [Aggregate],
+}
+
+impl Slots for GroupSlots<'_> {
+    fn add_value(&self, sql: &mut Printout, slot: usize) {
+        match self.aggregates.get(slot) {
+            Some(aggregate) => add_set_function(sql, *aggregate, "r", self.columns),
+            None => sql.add("NULL"),
+        }
+    }
+
+    fn add_exists(&self, sql: &mut Printout, slot: usize) {
+        match self.aggregates.get(slot) {
+            Some(aggregate) => {
+                sql.add("(");
+                add_set_function(sql, *aggregate, "r", self.columns);
+                sql.add(" > 0)");
+            }
+            None => sql.add("FALSE"),
+        }
+    }
+}
+
+/// The SQL of an assertion, by its form.
+pub trait RuleSql {
+    /// Adds the query of its bad roots from scratch, as a column `root`.
+    fn add_bad_roots(&self, sql: &mut Printout);
+
+    /// Adds the body of the test whether the root `candidate` is bad.
+    fn add_is_bad(&self, sql: &mut Printout);
+}
+
+/// An assertion by rows: of a table, with its condition and the subqueries in its slots.
+#[derive(Drop)]
+pub struct RowRule<'a> {
+    pub view: &'a View,
+    pub table: usize,
+    pub condition: &'a Cond,
+    pub queries: &'a [Query<Link>],
+}
+
+impl RuleSql for RowRule<'_> {
+    fn add_bad_roots(&self, sql: &mut Printout) {
+        sql.add("SELECT r.");
+        add_key_of(sql, self.view, self.table);
+        sql.add(" AS root ");
+        add_source(sql, self.view, self.table, "r");
+        sql.add(" WHERE ");
+        self.add_condition(sql);
+    }
+
+    fn add_is_bad(&self, sql: &mut Printout) {
+        sql.add("    RETURN EXISTS (SELECT ");
+        add_source(sql, self.view, self.table, "r");
+        sql.add(" WHERE r.");
+        add_key_of(sql, self.view, self.table);
+        sql.add(" = candidate AND ");
+        self.add_condition(sql);
+        sql.add(");\n");
+    }
+}
+
+impl RowRule<'_> {
+    /// Adds its condition on the row `r`.
+    fn add_condition(&self, sql: &mut Printout) {
+        let slots = LinkedSlots {
+            view: self.view,
+            table: self.table,
+            queries: self.queries,
+        };
+        let columns = columns_of(self.view, self.table);
+        add_test(sql, columns, &slots, self.condition);
+    }
+}
+
+/// An assertion by groups: of the rows of a table that its filter keeps, by a column, with what HAVING asks of a group.
+#[derive(Drop)]
+pub struct GroupRule<'a> {
+    pub view: &'a View,
+    pub table: usize,
+    pub filter: &'a Cond,
+    pub group: usize,
+    pub having: &'a Cond,
+    pub aggregates: &'a [Aggregate],
+}
+
+impl RuleSql for GroupRule<'_> {
+    fn add_bad_roots(&self, sql: &mut Printout) {
+        sql.add("SELECT r.");
+        self.add_group(sql);
+        sql.add(" AS root ");
+        add_source(sql, self.view, self.table, "r");
+        sql.add(" WHERE ");
+        self.add_rest(sql);
+    }
+
+    // NULLs are one group, which an equality would not find.
+    fn add_is_bad(&self, sql: &mut Printout) {
+        sql.add("    IF candidate IS NULL THEN\n    ");
+        self.add_found(sql, " IS NULL");
+        sql.add("    END IF;\n");
+        self.add_found(sql, " = candidate");
+    }
+}
+
+impl GroupRule<'_> {
+    /// Adds whether there is a bad group whose value is so.
+    fn add_found(&self, sql: &mut Printout, test: &str) {
+        sql.add("    RETURN EXISTS (SELECT ");
+        add_source(sql, self.view, self.table, "r");
+        sql.add(" WHERE r.");
+        self.add_group(sql);
+        sql.add_all(&[test, " AND "]);
+        self.add_rest(sql);
+        sql.add(");\n");
+    }
+
+    /// Adds the filter, the groups and what HAVING asks of them.
+    fn add_rest(&self, sql: &mut Printout) {
+        add_filter(sql, self.view, self.table, "r", self.filter);
+        sql.add(" GROUP BY r.");
+        self.add_group(sql);
+        sql.add(" HAVING ");
+        self.add_having(sql);
+    }
+
+    /// HAVING sees one column, the group's value.
+    fn add_having(&self, sql: &mut Printout) {
+        let columns = columns_of(self.view, self.table);
+        let slots = GroupSlots {
+            columns,
+            aggregates: self.aggregates,
+        };
+        let seen = columns.get(self.group..).unwrap_or(&[]);
+        add_test(sql, seen, &slots, self.having);
+    }
+
+    /// Adds the name of the column by which the groups are made.
+    fn add_group(&self, sql: &mut Printout) {
+        add_column_of(sql, self.view, self.table, self.group);
+    }
+}
+
+/// A single condition, with the number of its rule and the subqueries in its slots.
+#[derive(Drop)]
+pub struct SingleRule<'a> {
+    pub view: &'a View,
+    pub rule: usize,
+    pub condition: &'a Cond,
+    pub queries: &'a [Query<Whole>],
+}
+
+impl RuleSql for SingleRule<'_> {
+    fn add_bad_roots(&self, sql: &mut Printout) {
+        sql.add("SELECT NULL::bigint AS root WHERE ");
+        self.add_condition(sql);
+        sql.add(" IS FALSE");
+    }
+
+    // By totals, where they are kept.
+    fn add_is_bad(&self, sql: &mut Printout) {
+        sql.add("    RETURN ");
+        if totals::are_kept(self.queries) {
+            let slots = totals::TotalSlots {
+                rule: self.rule,
+                queries: self.queries,
+            };
+            add_test(sql, &[], &slots, self.condition);
+        } else {
+            self.add_condition(sql);
+        }
+        sql.add(" IS FALSE;\n");
+    }
+}
+
+impl SingleRule<'_> {
+    /// Adds the condition, its set functions evaluated from scratch.
+    pub fn add_condition(&self, sql: &mut Printout) {
+        let slots = WholeSlots {
+            view: self.view,
+            queries: self.queries,
+        };
+        add_test(sql, &[], &slots, self.condition);
+    }
 }

@@ -27,9 +27,11 @@ mod totals;
 mod triggers;
 mod words;
 
+use assertion::Assertion;
 use delta::View;
 pub use faults::PrintFault;
-use std::alloc::{AllocError, Global};
+use printout::Printout;
+use std::alloc::Global;
 use std::io::Write;
 use table::Row;
 
@@ -52,37 +54,37 @@ pub fn print_into<W: Write>(alloc: Global, view: &View, out: &mut W) -> Result<(
 fn print_all<W: Write>(alloc: Global, view: &View, out: &mut W) -> Result<(), PrintFault>
     ensures late { IfErr result (λ fault. is_before_writing fault ≡ false) }
 {
-    let mut sql = String::new(alloc);
-    sql.push_str(fixed::HEAD)?;
+    let mut sql = Printout::new(alloc);
+    sql.add(fixed::HEAD);
     for table in 0..view.catalog().len() {
         print_table(&mut sql, view, table, out)?;
     }
-    add_rules(alloc, &mut sql, view)?;
+    add_rules(&mut sql, view);
     write_out(&mut sql, out)?;
     flush(out)
 }
 
 /// Writes a table and its rows.
 fn print_table<W: Write>(
-    sql: &mut String,
+    sql: &mut Printout,
     view: &View,
     table: usize,
     out: &mut W,
 ) -> Result<(), PrintFault>
     ensures late { IfErr result (λ fault. is_before_writing fault ≡ false) }
 {
-    tables::add_table(sql, view, table)?;
+    tables::add_table(sql, view, table);
     if table < view.catalog().len() {
         for row in view.rows(table).iter() {
             print_row(sql, view, table, row, out)?;
         }
     }
-    tables::add_indexes(sql, view, table)?;
+    tables::add_indexes(sql, view, table);
     write_out(sql, out)
 }
 
 fn print_row<W: Write>(
-    sql: &mut String,
+    sql: &mut Printout,
     view: &View,
     table: usize,
     row: &Row,
@@ -90,35 +92,39 @@ fn print_row<W: Write>(
 ) -> Result<(), PrintFault>
     ensures late { IfErr result (λ fault. is_before_writing fault ≡ false) }
 {
-    tables::add_row(sql, view, table, row)?;
+    tables::add_row(sql, view, table, row);
     write_out(sql, out)
 }
 
 /// Adds all that keeps the rules.
-fn add_rules(alloc: Global, sql: &mut String, view: &View) -> Result<(), AllocError> {
-    sql.push_str(fixed::HELPERS)?;
-    if view
-        .assertions()
-        .iter()
-        .any(|assertion| assertion.attributes.deferrable)
-    {
-        sql.push_str(fixed::CALLS)?;
+fn add_rules(sql: &mut Printout, view: &View) {
+    sql.add(fixed::HELPERS);
+    if can_defer(view.assertions()) {
+        sql.add(fixed::CALLS);
     }
     for (place, assertion) in view.assertions().iter().enumerate() {
-        rules::add_rule(alloc, sql, view, place.saturating_add(1), assertion)?;
+        rules::add_rule(sql, view, place.saturating_add(1), assertion);
     }
     for table in 0..view.catalog().len() {
-        triggers::add_triggers(sql, view, table)?;
+        triggers::add_triggers(sql, view, table);
     }
-    rules::add_verdicts(alloc, sql, view)?;
-    sql.push_str(fixed::END)
+    rules::add_verdicts(sql, view);
+    sql.add(fixed::END);
+}
+
+/// Whether one of these assertions is deferrable.
+fn can_defer(assertions: &[Assertion]) -> bool {
+    assertions
+        .iter()
+        .any(|assertion| assertion.attributes.deferrable)
 }
 
 /// Writes what was put together, and empties it.
-fn write_out<W: Write>(sql: &mut String, out: &mut W) -> Result<(), PrintFault>
+fn write_out<W: Write>(sql: &mut Printout, out: &mut W) -> Result<(), PrintFault>
     ensures late { IfErr result (λ fault. is_before_writing fault ≡ false) }
 {
-    if out.write_all(sql.as_bytes()).is_err() {
+    let text = sql.text()?;
+    if out.write_all(text.as_bytes()).is_err() {
         return Err(PrintFault::Output);
     }
     sql.clear();

@@ -1,72 +1,84 @@
 //! What stands for an assertion: its bad roots from scratch, the test of one root, and what its mode calls.
 
-use crate::forms::{RootKind, RuleSql, group_sql, root_kind, row_sql, single_sql, single_text};
+use crate::forms::{GroupRule, RootKind, RowRule, RuleSql, SingleRule, root_kind};
 use crate::totals;
-use crate::words::Name;
+use crate::words::add_name;
 use assertion::{Assertion, Form};
 use delta::View;
-use std::alloc::{AllocError, Global};
+use printout::Printout;
 use value::Text;
 
 /// Adds what an assertion has for itself. Rules are counted from 1, in the order of their creation.
-pub fn add_rule(
-    alloc: Global,
-    sql: &mut String,
-    view: &View,
-    rule: usize,
-    assertion: &Assertion,
-) -> Result<(), AllocError> {
-    let name = &assertion.name;
-    write!(sql, "\n-- Rule {rule}, {name}: ")?;
-    add_choice(sql, view, rule, &assertion.form)?;
-    let kind = root_kind(view, &assertion.form);
-    let text = rule_sql(alloc, view, rule, &assertion.form)?;
-    add_tests(sql, rule, kind, &text)?;
+pub fn add_rule(sql: &mut Printout, view: &View, rule: usize, assertion: &Assertion) {
+    sql.add("\n-- Rule ");
+    sql.show(rule);
+    sql.add(", ");
+    sql.show(&assertion.name);
+    sql.add(": ");
+    add_choice(sql, view, rule, &assertion.form);
+    add_form(sql, view, rule, &assertion.form);
     if assertion.attributes.deferrable {
-        add_call(sql, rule, kind, assertion)?;
+        add_call(sql, rule, root_kind(view, &assertion.form), assertion);
     }
-    Ok(())
 }
 
 /// Adds how the rule is checked and why, and the totals of a single condition.
-fn add_choice(sql: &mut String, view: &View, rule: usize, form: &Form) -> Result<(), AllocError> {
+fn add_choice(sql: &mut Printout, view: &View, rule: usize, form: &Form) {
     match form {
-        Form::ByRow { .. } => sql.push_str(
+        Form::ByRow { .. } => sql.add(
             "by rows, checked at the keys that changed rows have or are linked to.\n",
         ),
-        Form::ByGroup { .. } => sql.push_str("by groups, checked at the groups of changed rows.\n"),
+        Form::ByGroup { .. } => sql.add("by groups, checked at the groups of changed rows.\n"),
         Form::Single { queries, .. } if totals::are_kept(queries.as_slice()) => {
-            sql.push_str(totals::WHY_KEPT)?;
-            totals::add_table(sql, view, rule, queries.as_slice())
+            sql.add(totals::WHY_KEPT);
+            totals::add_table(sql, view, rule, queries.as_slice());
         }
-        Form::Single { .. } => sql.push_str(totals::WHY_NOT_KEPT),
+        Form::Single { .. } => sql.add(totals::WHY_NOT_KEPT),
     }
 }
 
-fn rule_sql(alloc: Global, view: &View, rule: usize, form: &Form) -> Result<RuleSql, AllocError> {
+/// Adds what evaluates a form.
+fn add_form(sql: &mut Printout, view: &View, rule: usize, form: &Form) {
+    let type_name = root_kind(view, form).type_name();
     match form {
         Form::ByRow {
             table,
             condition,
             queries,
-        } => row_sql(alloc, view, *table, condition, queries.as_slice()),
+        } => {
+            let by_row = RowRule {
+                view,
+                table: *table,
+                condition,
+                queries: queries.as_slice(),
+            };
+            add_tests(sql, rule, type_name, &by_row);
+        }
         Form::ByGroup {
             table,
             filter,
             group,
             having,
             aggregates,
-        } => group_sql(
-            alloc,
-            view,
-            *table,
-            filter,
-            *group,
-            having,
-            aggregates.as_slice(),
-        ),
+        } => {
+            let by_group = GroupRule {
+                view,
+                table: *table,
+                filter,
+                group: *group,
+                having,
+                aggregates: aggregates.as_slice(),
+            };
+            add_tests(sql, rule, type_name, &by_group);
+        }
         Form::Single { condition, queries } => {
-            single_sql(alloc, view, rule, condition, queries.as_slice())
+            let single = SingleRule {
+                view,
+                rule,
+                condition,
+                queries: queries.as_slice(),
+            };
+            add_tests(sql, rule, type_name, &single);
         }
     }
 }
@@ -74,57 +86,47 @@ fn rule_sql(alloc: Global, view: &View, rule: usize, form: &Form) -> Result<Rule
 /// Adds the view of all bad roots, and the test of one. Its reads go by an index, however small a table is: a scan of a
 /// whole table would meet every change of it under SERIALIZABLE. Where there is no index a scan then looks dear enough
 /// to be compiled, which takes far longer than the scan: hence no jit.
-fn add_tests(
-    sql: &mut String,
-    rule: usize,
-    kind: RootKind,
-    text: &RuleSql,
-) -> Result<(), AllocError> {
-    let bad_roots = text.bad_roots.as_str();
-    let is_bad = text.is_bad.as_str();
-    let type_name = kind.type_name();
-    write!(
-        sql,
-        "CREATE VIEW skewguard_bad_roots_{rule} AS {bad_roots};
-CREATE FUNCTION skewguard_is_bad_{rule}(candidate {type_name}) RETURNS boolean
+fn add_tests<R: RuleSql>(sql: &mut Printout, rule: usize, type_name: &str, form: &R) {
+    sql.add("CREATE VIEW skewguard_bad_roots_");
+    sql.show(rule);
+    sql.add(" AS ");
+    form.add_bad_roots(sql);
+    sql.add(";\nCREATE FUNCTION skewguard_is_bad_");
+    sql.show(rule);
+    sql.add_all(&["(candidate ", type_name]);
+    sql.add(
+        ") RETURNS boolean
 LANGUAGE plpgsql STABLE SET search_path FROM CURRENT SET enable_seqscan = off SET jit = off AS $skewguard$
 BEGIN
-{is_bad}END
-$skewguard$;
-"
-    )
+",
+    );
+    form.add_is_bad(sql);
+    sql.add("END\n$skewguard$;\n");
 }
 
 /// Adds how a variable or a column with a root is written.
-pub fn add_written(sql: &mut String, kind: RootKind, root: &str) -> Result<(), AllocError> {
+pub fn add_written(sql: &mut Printout, kind: RootKind, root: &str) {
     match kind {
-        RootKind::Number | RootKind::Text => write!(sql, "skewguard_written({root})"),
-        RootKind::Whole => sql.push_str("'ALL'"),
+        RootKind::Number | RootKind::Text => sql.add_all(&["skewguard_written(", root, ")"]),
+        RootKind::Whole => sql.add("'ALL'"),
     }
 }
 
 /// Adds the refusal of a rule, where a bad root was found.
-pub fn add_refusal(sql: &mut String, kind: RootKind, name: &Text) -> Result<(), AllocError> {
-    write!(
-        sql,
-        "    IF FOUND THEN\n        PERFORM skewguard_refuse('{name}', "
-    )?;
-    add_written(sql, kind, kind.variable())?;
-    sql.push_str(");\n    END IF;\n")
+pub fn add_refusal(sql: &mut Printout, kind: RootKind, name: &Text) {
+    sql.add("    IF FOUND THEN\n        PERFORM skewguard_refuse('");
+    sql.show(name);
+    sql.add("', ");
+    add_written(sql, kind, kind.variable());
+    sql.add(");\n    END IF;\n");
 }
 
 /// Adds the constraint trigger of a deferrable rule, which PostgreSQL calls at once or later, as the rule's mode is.
-fn add_call(
-    sql: &mut String,
-    rule: usize,
-    kind: RootKind,
-    assertion: &Assertion,
-) -> Result<(), AllocError> {
-    let column = kind.column();
-    let variable = kind.variable();
-    write!(
-        sql,
-        "CREATE FUNCTION skewguard_check_{rule}() RETURNS trigger
+fn add_call(sql: &mut Printout, rule: usize, kind: RootKind, assertion: &Assertion) {
+    sql.add("CREATE FUNCTION skewguard_check_");
+    sql.show(rule);
+    sql.add(
+        "() RETURNS trigger
 LANGUAGE plpgsql SECURITY DEFINER SET search_path FROM CURRENT AS $skewguard$
 DECLARE
     least_number bigint;
@@ -133,72 +135,87 @@ BEGIN
     IF NOT skewguard_is_newest(NEW) THEN
         RETURN NULL;
     END IF;
-    SELECT n.{column} INTO {variable} FROM pg_temp.skewguard_notes AS n
-        WHERE n.rules = TG_RELID AND n.rule = {rule} AND skewguard_is_bad_{rule}(n.{column})
-        ORDER BY n.{column} NULLS FIRST LIMIT 1;
-"
-    )?;
-    add_refusal(sql, kind, &assertion.name)?;
-    add_constraint(sql, rule, assertion)
+",
+    );
+    add_noted_check(sql, rule, kind);
+    add_refusal(sql, kind, &assertion.name);
+    sql.add("    DELETE FROM pg_temp.skewguard_notes AS n WHERE n.rules = TG_RELID AND n.rule = ");
+    sql.show(rule);
+    sql.add(";\n    RETURN NULL;\nEND\n$skewguard$;\n");
+    add_constraint(sql, rule, assertion);
 }
 
-fn add_constraint(sql: &mut String, rule: usize, assertion: &Assertion) -> Result<(), AllocError> {
-    let name = Name(&assertion.name);
-    let initially = if assertion.attributes.initially_deferred {
+/// Adds the look for the least bad root among those that are noted of a rule.
+fn add_noted_check(sql: &mut Printout, rule: usize, kind: RootKind) {
+    let column = kind.column();
+    sql.add_all(&["    SELECT n.", column, " INTO ", kind.variable()]);
+    sql.add(" FROM pg_temp.skewguard_notes AS n\n        WHERE n.rules = TG_RELID AND n.rule = ");
+    sql.show(rule);
+    sql.add(" AND skewguard_is_bad_");
+    sql.show(rule);
+    sql.add_all(&["(n.", column, ")\n        ORDER BY n.", column]);
+    sql.add(" NULLS FIRST LIMIT 1;\n");
+}
+
+fn add_constraint(sql: &mut Printout, rule: usize, assertion: &Assertion) {
+    let mode = if assertion.attributes.initially_deferred {
         "DEFERRED"
     } else {
         "IMMEDIATE"
     };
-    write!(
-        sql,
-        "    DELETE FROM pg_temp.skewguard_notes AS n WHERE n.rules = TG_RELID AND n.rule = {rule};
-    RETURN NULL;
-END
-$skewguard$;
-CREATE CONSTRAINT TRIGGER {name} AFTER INSERT ON skewguard_due
-    DEFERRABLE INITIALLY {initially} FOR EACH ROW WHEN (NEW.rule = {rule})
-    EXECUTE FUNCTION skewguard_check_{rule}();
-"
-    )
+    sql.add("CREATE CONSTRAINT TRIGGER ");
+    add_name(sql, &assertion.name);
+    sql.add(" AFTER INSERT ON skewguard_due\n    DEFERRABLE INITIALLY ");
+    sql.add_all(&[mode, " FOR EACH ROW WHEN (NEW.rule = "]);
+    sql.show(rule);
+    sql.add(")\n    EXECUTE FUNCTION skewguard_check_");
+    sql.show(rule);
+    sql.add("();\n");
 }
 
 /// Adds the view of all verdicts, each evaluated from scratch, with the least bad root of a rule that is false.
-pub fn add_verdicts(alloc: Global, sql: &mut String, view: &View) -> Result<(), AllocError> {
-    sql.push_str(
+pub fn add_verdicts(sql: &mut Printout, view: &View) {
+    sql.add(
         "\n-- Each rule from scratch: TRUE, FALSE or NULL for unknown, and its least bad root where it is false.
 CREATE VIEW skewguard_verdicts (place, rule, verdict, root) AS
     SELECT NULL::integer, NULL::text, NULL::boolean, NULL::text WHERE false",
-    )?;
+    );
     for (place, assertion) in view.assertions().iter().enumerate() {
-        add_verdict(alloc, sql, view, place, assertion)?;
+        add_verdict(sql, view, place.saturating_add(1), assertion);
     }
-    sql.push_str(";\n")
+    sql.add(";\n");
 }
 
-fn add_verdict(
-    alloc: Global,
-    sql: &mut String,
-    view: &View,
-    place: usize,
-    assertion: &Assertion,
-) -> Result<(), AllocError> {
-    let rule = place.saturating_add(1);
-    let name = &assertion.name;
-    write!(sql, "\n    UNION ALL SELECT {rule}, '{name}', ")?;
-    match &assertion.form {
-        Form::ByRow { .. } | Form::ByGroup { .. } => write!(
-            sql,
-            "NOT EXISTS (SELECT FROM skewguard_bad_roots_{rule})"
-        )?,
+fn add_verdict(sql: &mut Printout, view: &View, rule: usize, assertion: &Assertion) {
+    sql.add("\n    UNION ALL SELECT ");
+    sql.show(rule);
+    sql.add(", '");
+    sql.show(&assertion.name);
+    sql.add("', ");
+    add_truth(sql, view, rule, &assertion.form);
+    sql.add(",\n        (SELECT ");
+    add_written(sql, root_kind(view, &assertion.form), "b.root");
+    sql.add(" FROM skewguard_bad_roots_");
+    sql.show(rule);
+    sql.add(" AS b ORDER BY b.root NULLS FIRST LIMIT 1)");
+}
+
+/// Adds the truth of a rule, evaluated from scratch.
+fn add_truth(sql: &mut Printout, view: &View, rule: usize, form: &Form) {
+    match form {
+        Form::ByRow { .. } | Form::ByGroup { .. } => {
+            sql.add("NOT EXISTS (SELECT FROM skewguard_bad_roots_");
+            sql.show(rule);
+            sql.add(")");
+        }
         Form::Single { condition, queries } => {
-            let text = single_text(alloc, view, condition, queries.as_slice())?;
-            sql.push_str(text.as_str())?
+            let single = SingleRule {
+                view,
+                rule,
+                condition,
+                queries: queries.as_slice(),
+            };
+            single.add_condition(sql);
         }
     }
-    sql.push_str(",\n        (SELECT ")?;
-    add_written(sql, root_kind(view, &assertion.form), "b.root")?;
-    write!(
-        sql,
-        " FROM skewguard_bad_roots_{rule} AS b ORDER BY b.root NULLS FIRST LIMIT 1)"
-    )
 }

@@ -1,73 +1,87 @@
 //! Tables, their rows and their indexes.
 
 use crate::faults::PrintFault;
-use crate::forms::add_table_name;
-use crate::words::{Constant, Name};
+use crate::forms::{add_table_name, columns_of};
+use crate::words::{add_constant, add_name};
 use assertion::{Assertion, Form};
 use delta::View;
-use std::alloc::AllocError;
+use printout::Printout;
 use table::{Column, LARGEST, Row};
 use value::ColType;
 
 /// Adds a table without rows. A number has the bound of every column, and a text is compared by its bytes.
-pub fn add_table(sql: &mut String, view: &View, table: usize) -> Result<(), AllocError> {
-    sql.push_str("\nCREATE TABLE ")?;
-    add_table_name(sql, view, table)?;
-    sql.push_str(" (")?;
+pub fn add_table(sql: &mut Printout, view: &View, table: usize) {
+    sql.add("\nCREATE TABLE ");
+    add_table_name(sql, view, table);
+    sql.add(" (");
     let key = view.key_column(table);
     let mut before = "\n    ";
-    for (place, column) in crate::forms::columns_of(view, table).iter().enumerate() {
-        sql.push_str(before)?;
-        add_column(sql, column, place == key)?;
+    for (place, column) in columns_of(view, table).iter().enumerate() {
+        sql.add(before);
+        add_column(sql, column, place == key);
         before = ",\n    ";
     }
-    sql.push_str("\n);\n")
+    sql.add("\n);\n");
 }
 
-fn add_column(sql: &mut String, column: &Column, is_key: bool) -> Result<(), AllocError> {
-    let name = Name(&column.name);
+fn add_column(sql: &mut Printout, column: &Column, is_key: bool) {
     let rest = match (is_key, column.nullable) {
         (true, _) => " PRIMARY KEY",
         (false, true) => "",
         (false, false) => " NOT NULL",
     };
+    add_name(sql, &column.name);
     match column.kind {
-        ColType::Integer => write!(
-            sql,
-            "{name} bigint{rest} CHECK ({name} BETWEEN -{LARGEST} AND {LARGEST})"
-        ),
-        ColType::Varchar(most) => write!(
-            sql,
-            "{name} text COLLATE \"C\"{rest} CHECK (octet_length({name}) <= {most} AND {name} !~ '[^ -~]')"
-        ),
+        ColType::Integer => add_number_kind(sql, column, rest),
+        ColType::Varchar(most) => add_text_kind(sql, column, rest, most),
     }
+}
+
+fn add_number_kind(sql: &mut Printout, column: &Column, rest: &str) {
+    sql.add_all(&[" bigint", rest, " CHECK ("]);
+    add_name(sql, &column.name);
+    sql.add(" BETWEEN -");
+    sql.show(LARGEST);
+    sql.add(" AND ");
+    sql.show(LARGEST);
+    sql.add(")");
+}
+
+fn add_text_kind(sql: &mut Printout, column: &Column, rest: &str, most: u8) {
+    sql.add_all(&[" text COLLATE \"C\"", rest, " CHECK (char_length("]);
+    add_name(sql, &column.name);
+    sql.add(") <= ");
+    sql.show(most);
+    sql.add(" AND ");
+    add_name(sql, &column.name);
+    sql.add(" !~ E'[\\\\x01-\\\\x1f\\\\x7f]')");
 }
 
 /// Adds the rows of a table.
-pub fn add_row(sql: &mut String, view: &View, table: usize, row: &Row) -> Result<(), AllocError> {
-    sql.push_str("INSERT INTO ")?;
-    add_table_name(sql, view, table)?;
+pub fn add_row(sql: &mut Printout, view: &View, table: usize, row: &Row) {
+    sql.add("INSERT INTO ");
+    add_table_name(sql, view, table);
     let mut before = " VALUES (";
     for value in row.values() {
-        let constant = Constant(value);
-        write!(sql, "{before}{constant}")?;
+        sql.add(before);
+        add_constant(sql, value);
         before = ", ";
     }
-    sql.push_str(");\n")
+    sql.add(");\n");
 }
 
 /// Adds an index on each column of a table by which an assertion looks for rows. A key has one already.
-pub fn add_indexes(sql: &mut String, view: &View, table: usize) -> Result<(), AllocError> {
+pub fn add_indexes(sql: &mut Printout, view: &View, table: usize) {
     let key = view.key_column(table);
-    for (place, column) in crate::forms::columns_of(view, table).iter().enumerate() {
+    for (place, column) in columns_of(view, table).iter().enumerate() {
         if place != key && is_looked_up(view.assertions(), table, place) {
-            sql.push_str("CREATE INDEX ON ")?;
-            add_table_name(sql, view, table)?;
-            let name = Name(&column.name);
-            write!(sql, " ({name});\n")?;
+            sql.add("CREATE INDEX ON ");
+            add_table_name(sql, view, table);
+            sql.add(" (");
+            add_name(sql, &column.name);
+            sql.add(");\n");
         }
     }
-    Ok(())
 }
 
 /// Whether a column is a link or a group of an assertion.
@@ -102,7 +116,7 @@ pub fn require_short_names(view: &View) -> Result<(), PrintFault> {
         if let Some(name) = view.catalog().name(table) {
             require_short(name)?;
         }
-        for column in crate::forms::columns_of(view, table) {
+        for column in columns_of(view, table) {
             require_short(&column.name)?;
         }
     }

@@ -6,11 +6,11 @@
 //! check of aggregates too: each would have read what the other one changes. MIN and MAX of what is left after a
 //! DELETE are known from no total, so a condition over one of them is checked by its aggregates.
 
-use crate::conditions::Slot;
-use crate::forms::{add_filter, add_source, column_name};
+use crate::conditions::Slots;
+use crate::forms::{add_column_of, add_filter, add_source};
 use assertion::{Query, Whole};
 use delta::View;
-use std::alloc::{AllocError, Global};
+use printout::Printout;
 use table::Aggregate;
 
 /// Why totals are kept of a rule.
@@ -36,186 +36,203 @@ fn is_counted(aggregate: Aggregate) -> bool {
     }
 }
 
-/// What stands in the slots of a single condition, from the totals of its rule.
-pub fn slots(
-    alloc: Global,
-    rule: usize,
-    queries: &[Query<Whole>],
-) -> Result<Vec<Slot>, AllocError> {
-    let mut slots = Vec::new(alloc);
-    for (place, query) in queries.iter().enumerate() {
-        slots.push(slot(alloc, rule, place, query.aggregate)?)?;
-    }
-    Ok(slots)
+/// In the slots of a single condition: what the totals of its rule say.
+#[derive(Drop)]
+pub struct TotalSlots<'a> {
+    pub rule: usize,
+    pub queries: &'a [Query<Whole>],
 }
 
-fn slot(
-    alloc: Global,
-    rule: usize,
-    place: usize,
-    aggregate: Aggregate,
-) -> Result<Slot, AllocError> {
-    let source = format!(in alloc; "FROM skewguard_totals_{rule} AS t")?;
-    let value = match aggregate {
-        Aggregate::Sum(_) => format!(in alloc;
-            "(SELECT CASE WHEN t.count_{place} > 0 THEN t.sum_{place} END {source})"
-        )?,
-        _ => format!(in alloc; "(SELECT t.count_{place} {source})")?,
-    };
-    Ok(Slot {
-        value,
-        exists: format!(in alloc; "EXISTS (SELECT {source} WHERE t.count_{place} > 0)")?,
-    })
+impl Slots for TotalSlots<'_> {
+    fn add_value(&self, sql: &mut Printout, slot: usize) {
+        let Some(query) = self.queries.get(slot) else {
+            return sql.add("NULL");
+        };
+        sql.add("(SELECT ");
+        add_total(sql, slot, query.aggregate);
+        add_row(sql, self.rule);
+        sql.add(")");
+    }
+
+    fn add_exists(&self, sql: &mut Printout, slot: usize) {
+        if slot >= self.queries.len() {
+            return sql.add("FALSE");
+        }
+        sql.add("EXISTS (SELECT");
+        add_row(sql, self.rule);
+        sql.add(" WHERE t.count_");
+        sql.show(slot);
+        sql.add(" > 0)");
+    }
+}
+
+/// Adds what a set function gives, from its totals. A SUM of no value is NULL.
+fn add_total(sql: &mut Printout, place: usize, aggregate: Aggregate) {
+    match aggregate {
+        Aggregate::Sum(_) => {
+            sql.add("CASE WHEN t.count_");
+            sql.show(place);
+            sql.add(" > 0 THEN t.sum_");
+            sql.show(place);
+            sql.add(" END");
+        }
+        _ => {
+            sql.add("t.count_");
+            sql.show(place);
+        }
+    }
+}
+
+/// Adds the row of a rule's totals, which goes by `t`.
+fn add_row(sql: &mut Printout, rule: usize) {
+    sql.add(" FROM skewguard_totals_");
+    sql.show(rule);
+    sql.add(" AS t");
 }
 
 /// Adds the table of a rule's totals, with its one row.
-pub fn add_table(
-    sql: &mut String,
-    view: &View,
-    rule: usize,
-    queries: &[Query<Whole>],
-) -> Result<(), AllocError> {
-    write!(sql, "CREATE TABLE skewguard_totals_{rule} AS SELECT\n")?;
+pub fn add_table(sql: &mut Printout, view: &View, rule: usize, queries: &[Query<Whole>]) {
+    sql.add("CREATE TABLE skewguard_totals_");
+    sql.show(rule);
+    sql.add(" AS SELECT\n");
     let mut before = "    ";
     for (place, query) in queries.iter().enumerate() {
-        sql.push_str(before)?;
-        add_column(sql, view, place, query)?;
+        sql.add(before);
+        add_column(sql, view, place, query);
         before = ",\n    ";
     }
-    sql.push_str(";\n")
+    sql.add(";\n");
 }
 
 /// Adds a count and a sum from scratch. A SUM counts its values, since it is NULL where there is none.
-fn add_column(
-    sql: &mut String,
-    view: &View,
-    place: usize,
-    query: &Query<Whole>,
-) -> Result<(), AllocError> {
-    sql.push_str("(SELECT count(*) ")?;
-    add_kept(sql, view, query, "s")?;
-    write!(sql, ") AS count_{place}, (SELECT COALESCE(sum(")?;
-    add_amount(sql, view, query, "s")?;
-    sql.push_str("), 0) ")?;
-    add_kept(sql, view, query, "s")?;
-    write!(sql, ") AS sum_{place}")
+fn add_column(sql: &mut Printout, view: &View, place: usize, query: &Query<Whole>) {
+    sql.add("(SELECT count(*) ");
+    add_kept(sql, view, query, "s");
+    sql.add(") AS count_");
+    sql.show(place);
+    sql.add(", (SELECT COALESCE(sum(");
+    add_amount(sql, view, query, "s");
+    sql.add("), 0) ");
+    add_kept(sql, view, query, "s");
+    sql.add(") AS sum_");
+    sql.show(place);
 }
 
 /// Adds the table of a subquery, and the WHERE of the rows that its set function counts.
-fn add_kept(
-    sql: &mut String,
-    view: &View,
-    query: &Query<Whole>,
-    row: &str,
-) -> Result<(), AllocError> {
-    add_source(sql, view, query.table, row)?;
-    sql.push_str(" WHERE ")?;
-    add_counted(sql, view, query, row)
+fn add_kept(sql: &mut Printout, view: &View, query: &Query<Whole>, row: &str) {
+    add_source(sql, view, query.table, row);
+    sql.add(" WHERE ");
+    add_counted(sql, view, query, row);
 }
 
 /// Adds the test whether a set function counts a row: its WHERE keeps it, and its column is not NULL.
-fn add_counted(
-    sql: &mut String,
-    view: &View,
-    query: &Query<Whole>,
-    row: &str,
-) -> Result<(), AllocError> {
-    add_filter(sql, view, query.table, row, &query.filter)?;
+fn add_counted(sql: &mut Printout, view: &View, query: &Query<Whole>, row: &str) {
+    add_filter(sql, view, query.table, row, &query.filter);
     match query.aggregate {
-        Aggregate::CountRows => Ok(()),
+        Aggregate::CountRows => {}
         Aggregate::Count(column)
         | Aggregate::Sum(column)
         | Aggregate::Min(column)
         | Aggregate::Max(column) => {
-            let name = column_name(view, query.table, column);
-            write!(sql, " AND {row}.{name} IS NOT NULL")
+            sql.add_all(&[" AND ", row, "."]);
+            add_column_of(sql, view, query.table, column);
+            sql.add(" IS NOT NULL");
         }
     }
 }
 
 /// Adds what a set function adds for a row: nothing but for SUM.
-fn add_amount(
-    sql: &mut String,
-    view: &View,
-    query: &Query<Whole>,
-    row: &str,
-) -> Result<(), AllocError> {
+fn add_amount(sql: &mut Printout, view: &View, query: &Query<Whole>, row: &str) {
     match query.aggregate {
         Aggregate::Sum(column) => {
-            let name = column_name(view, query.table, column);
-            write!(sql, "{row}.{name}::numeric")
+            sql.add_all(&[row, "."]);
+            add_column_of(sql, view, query.table, column);
         }
-        _ => sql.push_str("0::numeric"),
+        _ => sql.add("0"),
     }
+    sql.add("::numeric");
 }
 
 /// Adds the statement that adds to a rule's totals what a statement has changed in a table. What changes nothing of
 /// them does not touch their row.
 pub fn add_change(
-    sql: &mut String,
+    sql: &mut Printout,
     view: &View,
     rule: usize,
     table: usize,
     queries: &[Query<Whole>],
     changed: &str,
-) -> Result<(), AllocError> {
-    write!(sql, "    UPDATE skewguard_totals_{rule} AS t SET\n")?;
+) {
+    sql.add("    UPDATE skewguard_totals_");
+    sql.show(rule);
+    sql.add(" AS t SET\n");
+    add_new_totals(sql, table, queries);
+    sql.add("\n    FROM (SELECT\n");
+    add_differences(sql, view, table, queries);
+    sql.add_all(&["\n        FROM ", changed, " AS c) AS d\n"]);
+    add_touched(sql, table, queries);
+}
+
+/// Adds, for each set function over a table, its totals with what is added to them.
+fn add_new_totals(sql: &mut Printout, table: usize, queries: &[Query<Whole>]) {
     let mut before = "        ";
     for (place, query) in queries.iter().enumerate() {
         if query.table == table {
-            sql.push_str(before)?;
-            write!(sql, "count_{place} = t.count_{place} + d.count_{place}")?;
-            write!(sql, ", sum_{place} = t.sum_{place} + d.sum_{place}")?;
+            sql.add(before);
+            add_new_total(sql, "count_", place);
+            sql.add(", ");
+            add_new_total(sql, "sum_", place);
             before = ",\n        ";
         }
     }
-    sql.push_str("\n    FROM (SELECT\n")?;
-    add_differences(sql, view, table, queries)?;
-    write!(sql, "\n        FROM {changed} AS c) AS d\n")?;
-    add_touched(sql, table, queries)
+}
+
+fn add_new_total(sql: &mut Printout, column: &str, place: usize) {
+    sql.add(column);
+    sql.show(place);
+    sql.add_all(&[" = t.", column]);
+    sql.show(place);
+    sql.add_all(&[" + d.", column]);
+    sql.show(place);
 }
 
 /// Adds, for each set function over a table, what the changed rows add to it.
-fn add_differences(
-    sql: &mut String,
-    view: &View,
-    table: usize,
-    queries: &[Query<Whole>],
-) -> Result<(), AllocError> {
+fn add_differences(sql: &mut Printout, view: &View, table: usize, queries: &[Query<Whole>]) {
     let mut before = "        ";
     for (place, query) in queries.iter().enumerate() {
         if query.table == table {
-            sql.push_str(before)?;
-            add_difference(sql, view, place, query)?;
+            sql.add(before);
+            add_difference(sql, view, place, query);
             before = ",\n        ";
         }
     }
-    Ok(())
 }
 
-fn add_difference(
-    sql: &mut String,
-    view: &View,
-    place: usize,
-    query: &Query<Whole>,
-) -> Result<(), AllocError> {
-    sql.push_str("COALESCE(sum(c.sign) FILTER (WHERE ")?;
-    add_counted(sql, view, query, "c")?;
-    write!(sql, "), 0) AS count_{place}, COALESCE(sum(c.sign * ")?;
-    add_amount(sql, view, query, "c")?;
-    sql.push_str(") FILTER (WHERE ")?;
-    add_counted(sql, view, query, "c")?;
-    write!(sql, "), 0) AS sum_{place}")
+fn add_difference(sql: &mut Printout, view: &View, place: usize, query: &Query<Whole>) {
+    sql.add("COALESCE(sum(c.sign) FILTER (WHERE ");
+    add_counted(sql, view, query, "c");
+    sql.add("), 0) AS count_");
+    sql.show(place);
+    sql.add(", COALESCE(sum(c.sign * ");
+    add_amount(sql, view, query, "c");
+    sql.add(") FILTER (WHERE ");
+    add_counted(sql, view, query, "c");
+    sql.add("), 0) AS sum_");
+    sql.show(place);
 }
 
 /// Adds the test whether a difference is other than nothing.
-fn add_touched(sql: &mut String, table: usize, queries: &[Query<Whole>]) -> Result<(), AllocError> {
+fn add_touched(sql: &mut Printout, table: usize, queries: &[Query<Whole>]) {
     let mut before = "    WHERE ";
     for (place, query) in queries.iter().enumerate() {
         if query.table == table {
-            write!(sql, "{before}d.count_{place} <> 0 OR d.sum_{place} <> 0")?;
+            sql.add_all(&[before, "d.count_"]);
+            sql.show(place);
+            sql.add(" <> 0 OR d.sum_");
+            sql.show(place);
+            sql.add(" <> 0");
             before = " OR ";
         }
     }
-    sql.push_str(";\n")
+    sql.add(";\n");
 }

@@ -6,12 +6,12 @@
 //! PostgreSQL's own modes say when (`fixed::CALLS`).
 
 use crate::candidates::{add_candidates, is_over};
-use crate::forms::{RootKind, add_table_name, key_name, root_kind};
+use crate::forms::{add_key_of, add_table_name, root_kind};
 use crate::rules::add_refusal;
 use crate::totals;
 use assertion::{Assertion, Form};
 use delta::View;
-use std::alloc::AllocError;
+use printout::Printout;
 
 /// The changed rows of a statement: all of them, and each beside what it adds to a count, as `sign`.
 #[derive(Clone, Copy)]
@@ -32,97 +32,96 @@ const TWICE: ChangedRows = ChangedRows {
     signed: "(SELECT -1 AS sign, t.* FROM skewguard_old AS t UNION ALL SELECT 1, t.* FROM skewguard_new AS t)",
 };
 
+/// The trigger of a kind of statement: its name, the statement, what of the rows it hands on, and the function that it
+/// calls.
+#[derive(Clone, Copy)]
+struct Trigger {
+    name: &'static str,
+    statement: &'static str,
+    rows: &'static str,
+    function: &'static str,
+}
+
+const INSERTED: Trigger = Trigger {
+    name: "inserted",
+    statement: "INSERT",
+    rows: "NEW TABLE AS skewguard_changed",
+    function: "changed",
+};
+
+const DELETED: Trigger = Trigger {
+    name: "deleted",
+    statement: "DELETE",
+    rows: "OLD TABLE AS skewguard_changed",
+    function: "changed",
+};
+
+const UPDATED: Trigger = Trigger {
+    name: "updated",
+    statement: "UPDATE",
+    rows: "OLD TABLE AS skewguard_old NEW TABLE AS skewguard_new",
+    function: "updated",
+};
+
 /// Adds the triggers of a table.
-pub fn add_triggers(sql: &mut String, view: &View, table: usize) -> Result<(), AllocError> {
-    add_key_trigger(sql, view, table)?;
-    if !view
-        .assertions()
+pub fn add_triggers(sql: &mut Printout, view: &View, table: usize) {
+    add_key_trigger(sql, view, table);
+    if is_guarded(view.assertions(), table) {
+        sql.add("-- After each statement on ");
+        add_table_name(sql, view, table);
+        sql.add(".\n");
+        add_function(sql, view, table, "changed", &ONCE);
+        add_function(sql, view, table, "updated", &TWICE);
+        add_trigger(sql, view, table, &INSERTED);
+        add_trigger(sql, view, table, &DELETED);
+        add_trigger(sql, view, table, &UPDATED);
+        sql.add("CREATE TRIGGER skewguard_truncated BEFORE TRUNCATE ON ");
+        add_table_name(sql, view, table);
+        sql.add(" FOR EACH STATEMENT EXECUTE FUNCTION skewguard_refuse_truncate();\n");
+    }
+}
+
+/// Whether a rule is over a table.
+fn is_guarded(assertions: &[Assertion], table: usize) -> bool {
+    assertions
         .iter()
         .any(|assertion| is_over(&assertion.form, table))
-    {
-        return Ok(());
-    }
-    sql.push_str("-- After each statement on ")?;
-    add_table_name(sql, view, table)?;
-    sql.push_str(".\n")?;
-    add_function(sql, view, table, "changed", ONCE)?;
-    add_function(sql, view, table, "updated", TWICE)?;
-    add_event(
-        sql,
-        view,
-        table,
-        "inserted",
-        "INSERT",
-        "NEW TABLE AS skewguard_changed",
-        "changed",
-    )?;
-    add_event(
-        sql,
-        view,
-        table,
-        "deleted",
-        "DELETE",
-        "OLD TABLE AS skewguard_changed",
-        "changed",
-    )?;
-    add_event(
-        sql,
-        view,
-        table,
-        "updated",
-        "UPDATE",
-        "OLD TABLE AS skewguard_old NEW TABLE AS skewguard_new",
-        "updated",
-    )?;
-    sql.push_str("CREATE TRIGGER skewguard_truncated BEFORE TRUNCATE ON ")?;
-    add_table_name(sql, view, table)?;
-    write!(
-        sql,
-        " FOR EACH STATEMENT EXECUTE FUNCTION skewguard_refuse_truncate();\n"
-    )
 }
 
 /// Adds the trigger that refuses to assign a key.
-fn add_key_trigger(sql: &mut String, view: &View, table: usize) -> Result<(), AllocError> {
-    let key = key_name(view, table);
-    write!(
-        sql,
-        "\nCREATE TRIGGER skewguard_key BEFORE UPDATE OF {key} ON "
-    )?;
-    add_table_name(sql, view, table)?;
-    sql.push_str(" FOR EACH STATEMENT EXECUTE FUNCTION skewguard_refuse_key();\n")
+fn add_key_trigger(sql: &mut Printout, view: &View, table: usize) {
+    sql.add("\nCREATE TRIGGER skewguard_key BEFORE UPDATE OF ");
+    add_key_of(sql, view, table);
+    sql.add(" ON ");
+    add_table_name(sql, view, table);
+    sql.add(" FOR EACH STATEMENT EXECUTE FUNCTION skewguard_refuse_key();\n");
 }
 
-fn add_event(
-    sql: &mut String,
-    view: &View,
-    table: usize,
-    name: &str,
-    event: &str,
-    referencing: &str,
-    function: &str,
-) -> Result<(), AllocError> {
-    let place = table.saturating_add(1);
-    write!(sql, "CREATE TRIGGER skewguard_{name} AFTER {event} ON ")?;
-    add_table_name(sql, view, table)?;
-    write!(
-        sql,
-        " REFERENCING {referencing}\n    FOR EACH STATEMENT EXECUTE FUNCTION skewguard_{function}_{place}();\n"
-    )
+fn add_trigger(sql: &mut Printout, view: &View, table: usize, trigger: &Trigger) {
+    sql.add_all(&[
+        "CREATE TRIGGER skewguard_",
+        trigger.name,
+        " AFTER ",
+        trigger.statement,
+        " ON ",
+    ]);
+    add_table_name(sql, view, table);
+    sql.add_all(&[
+        " REFERENCING ",
+        trigger.rows,
+        "\n    FOR EACH STATEMENT EXECUTE FUNCTION skewguard_",
+    ]);
+    sql.add_all(&[trigger.function, "_"]);
+    sql.show(table.saturating_add(1));
+    sql.add("();\n");
 }
 
 /// Adds a function of a table's triggers, for rows that are changed in one way.
-fn add_function(
-    sql: &mut String,
-    view: &View,
-    table: usize,
-    name: &str,
-    changed: ChangedRows,
-) -> Result<(), AllocError> {
-    let place = table.saturating_add(1);
-    write!(
-        sql,
-        "CREATE FUNCTION skewguard_{name}_{place}() RETURNS trigger
+fn add_function(sql: &mut Printout, view: &View, table: usize, name: &str, changed: &ChangedRows) {
+    sql.add_all(&["CREATE FUNCTION skewguard_", name, "_"]);
+    sql.show(table.saturating_add(1));
+    sql.add(
+        "() RETURNS trigger
 LANGUAGE plpgsql SECURITY DEFINER SET search_path FROM CURRENT AS $skewguard$
 DECLARE
     least_number bigint;
@@ -130,14 +129,14 @@ DECLARE
     is_new boolean := false;
 BEGIN
     PERFORM skewguard_require_serializable();
-"
-    )?;
-    add_total_changes(sql, view, table, changed)?;
-    add_checks(sql, view, table, changed)?;
+",
+    );
+    add_total_changes(sql, view, table, changed);
+    add_checks(sql, view, table, changed);
     if defers(view.assertions(), table) {
-        sql.push_str("    IF is_new THEN\n        PERFORM skewguard_call_noted();\n    END IF;\n")?;
+        sql.add("    IF is_new THEN\n        PERFORM skewguard_call_noted();\n    END IF;\n");
     }
-    sql.push_str("    RETURN NULL;\nEND\n$skewguard$;\n")
+    sql.add("    RETURN NULL;\nEND\n$skewguard$;\n");
 }
 
 /// Whether a deferrable rule is over a table.
@@ -147,92 +146,103 @@ fn defers(assertions: &[Assertion], table: usize) -> bool {
 }
 
 /// Adds what the changed rows add to totals.
-fn add_total_changes(
-    sql: &mut String,
-    view: &View,
-    table: usize,
-    changed: ChangedRows,
-) -> Result<(), AllocError> {
+fn add_total_changes(sql: &mut Printout, view: &View, table: usize, changed: &ChangedRows) {
     for (place, assertion) in view.assertions().iter().enumerate() {
         if let Form::Single { queries, .. } = &assertion.form {
             if is_over(&assertion.form, table) && totals::are_kept(queries.as_slice()) {
                 let rule = place.saturating_add(1);
-                totals::add_change(sql, view, rule, table, queries.as_slice(), changed.signed)?;
+                totals::add_change(sql, view, rule, table, queries.as_slice(), changed.signed);
             }
         }
     }
-    Ok(())
 }
 
 /// Adds the checks and the notes of the rules over a table, in the order of their creation.
-fn add_checks(
-    sql: &mut String,
-    view: &View,
-    table: usize,
-    changed: ChangedRows,
-) -> Result<(), AllocError> {
+fn add_checks(sql: &mut Printout, view: &View, table: usize, changed: &ChangedRows) {
     for (place, assertion) in view.assertions().iter().enumerate() {
         if is_over(&assertion.form, table) {
-            let rule = place.saturating_add(1);
-            if assertion.attributes.deferrable {
-                add_note(sql, view, table, rule, &assertion.form, changed)?;
-            }
-            add_check(sql, view, table, rule, assertion, changed)?;
-            if assertion.attributes.deferrable {
-                sql.push_str("    END IF;\n")?;
-            }
+            add_check(
+                sql,
+                view,
+                table,
+                place.saturating_add(1),
+                assertion,
+                changed.rows,
+            );
         }
     }
-    Ok(())
 }
 
-/// Adds the head of a deferrable rule's part: where it is deferred its candidates are noted, and else its check
-/// follows.
-fn add_note(
-    sql: &mut String,
-    view: &View,
-    table: usize,
-    rule: usize,
-    form: &Form,
-    changed: ChangedRows,
-) -> Result<(), AllocError> {
-    let column = root_kind(view, form).column();
-    write!(sql, "    IF NOT EXISTS (\n        ")?;
-    add_candidates(sql, view, form, table, changed.rows)?;
-    write!(
-        sql,
-        ") THEN
-        NULL;
-    ELSIF skewguard_is_noted({rule}) OR NOT skewguard_is_immediate({rule}) THEN
-        is_new := is_new OR NOT skewguard_is_noted({rule});
-        PERFORM skewguard_open_notes();
-        INSERT INTO pg_temp.skewguard_notes (rules, rule, {column})
-        SELECT DISTINCT 'skewguard_due'::regclass::oid, {rule}, u.root FROM (
-        "
-    )?;
-    add_candidates(sql, view, form, table, changed.rows)?;
-    write!(sql, ") AS u\n        ON CONFLICT DO NOTHING;\n    ELSE\n")
-}
-
-/// Adds the check of a rule at each of its candidates once.
+/// Adds the part of a rule: its check, and of a deferrable rule the notes in place of it.
 fn add_check(
-    sql: &mut String,
+    sql: &mut Printout,
     view: &View,
     table: usize,
     rule: usize,
     assertion: &Assertion,
-    changed: ChangedRows,
-) -> Result<(), AllocError> {
-    let kind: RootKind = root_kind(view, &assertion.form);
-    let variable = kind.variable();
-    sql.push_str("    WITH roots AS MATERIALIZED (SELECT DISTINCT u.root FROM (\n        ")?;
-    add_candidates(sql, view, &assertion.form, table, changed.rows)?;
-    write!(
-        sql,
-        ") AS u)
-    SELECT roots.root INTO {variable} FROM roots WHERE skewguard_is_bad_{rule}(roots.root)
-        ORDER BY roots.root NULLS FIRST LIMIT 1;
-"
-    )?;
-    add_refusal(sql, kind, &assertion.name)
+    changed: &str,
+) {
+    if assertion.attributes.deferrable {
+        add_note(sql, view, table, rule, &assertion.form, changed);
+        sql.add("    ELSE\n");
+        add_immediate_check(sql, view, table, rule, assertion, changed);
+        sql.add("    END IF;\n");
+    } else {
+        add_immediate_check(sql, view, table, rule, assertion, changed);
+    }
+}
+
+/// Adds the head of a deferrable rule's part: where it is deferred its candidates are noted.
+fn add_note(
+    sql: &mut Printout,
+    view: &View,
+    table: usize,
+    rule: usize,
+    form: &Form,
+    changed: &str,
+) {
+    sql.add("    IF NOT EXISTS (\n        ");
+    add_candidates(sql, view, form, table, changed);
+    sql.add(") THEN\n        NULL;\n    ELSIF skewguard_is_noted(");
+    sql.show(rule);
+    sql.add(") OR NOT skewguard_is_immediate(");
+    sql.show(rule);
+    sql.add(") THEN\n        is_new := is_new OR NOT skewguard_is_noted(");
+    sql.show(rule);
+    sql.add(");\n        PERFORM skewguard_open_notes();\n");
+    add_insertion(sql, rule, root_kind(view, form).column());
+    add_candidates(sql, view, form, table, changed);
+    sql.add(") AS u\n        ON CONFLICT DO NOTHING;\n");
+}
+
+/// Adds the head of the statement that puts roots among the notes.
+fn add_insertion(sql: &mut Printout, rule: usize, column: &str) {
+    sql.add_all(&[
+        "        INSERT INTO pg_temp.skewguard_notes (rules, rule, ",
+        column,
+        ")\n",
+    ]);
+    sql.add("        SELECT DISTINCT 'skewguard_due'::regclass::oid, ");
+    sql.show(rule);
+    sql.add(", u.root FROM (\n        ");
+}
+
+/// Adds the check of a rule at each of its candidates once.
+fn add_immediate_check(
+    sql: &mut Printout,
+    view: &View,
+    table: usize,
+    rule: usize,
+    assertion: &Assertion,
+    changed: &str,
+) {
+    let kind = root_kind(view, &assertion.form);
+    sql.add("    WITH roots AS MATERIALIZED (SELECT DISTINCT u.root FROM (\n        ");
+    add_candidates(sql, view, &assertion.form, table, changed);
+    sql.add(") AS u)\n");
+    sql.add_all(&["    SELECT roots.root INTO ", kind.variable()]);
+    sql.add(" FROM roots WHERE skewguard_is_bad_");
+    sql.show(rule);
+    sql.add("(roots.root)\n        ORDER BY roots.root NULLS FIRST LIMIT 1;\n");
+    add_refusal(sql, kind, &assertion.name);
 }

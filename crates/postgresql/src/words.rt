@@ -1,115 +1,82 @@
 //! Names and constants as PostgreSQL reads them.
 
-use std::fmt;
+use printout::Printout;
 use table::{Aggregate, Column};
-use value::{Comparison, Text, Value};
+use value::{Text, Value};
 
-/// A name in double quotes, in which it is taken byte by byte and is never a reserved word. It holds no quote itself:
-/// the names of the language are letters, digits and `_`.
-#[derive(Clone, Copy)]
-pub struct Name<'a>(pub &'a Text);
+/// Adds a name in double quotes, in which it is taken byte by byte and is never a reserved word. It holds no quote
+/// itself: the names of the language are letters, digits and `_`.
+pub fn add_name(sql: &mut Printout, name: &Text) {
+    sql.add("\"");
+    sql.show(name);
+    sql.add("\"");
+}
 
-impl fmt::Display for Name<'_> {
-    fn fmt<W: fmt::Write>(&self, f: &mut fmt::Formatter<W>) -> fmt::Result {
-        let name = self.0;
-        write!(f, "\"{name}\"")
+/// Adds the name of a column of these, by its place; the word NULL where there is none.
+pub fn add_column_name(sql: &mut Printout, columns: &[Column], place: usize) {
+    match columns.get(place) {
+        Some(column) => add_name(sql, &column.name),
+        None => sql.add("NULL"),
     }
 }
 
-/// The name of a column of these, by its place; the word NULL where there is none.
-#[derive(Clone, Copy)]
-pub struct ColumnName<'a> {
-    pub columns: &'a [Column],
-    pub place: usize,
+/// Adds a column of a row that goes by a name.
+pub fn add_column(sql: &mut Printout, row: &str, columns: &[Column], place: usize) {
+    sql.add(row);
+    sql.add(".");
+    add_column_name(sql, columns, place);
 }
 
-impl fmt::Display for ColumnName<'_> {
-    fn fmt<W: fmt::Write>(&self, f: &mut fmt::Formatter<W>) -> fmt::Result {
-        match self.columns.get(self.place) {
-            Some(column) => {
-                let name = Name(&column.name);
-                write!(f, "{name}")
-            }
-            None => write!(f, "NULL"),
+/// Adds a constant. A text is compared by its bytes.
+pub fn add_constant(sql: &mut Printout, value: &Value) {
+    match value {
+        Value::Null => sql.add("NULL"),
+        Value::Int(number) => add_number(sql, *number),
+        Value::Text(text) => add_text(sql, text),
+    }
+}
+
+fn add_number(sql: &mut Printout, number: i64) {
+    if number < 0 {
+        sql.add("(");
+        sql.show(number);
+        sql.add(")");
+    } else {
+        sql.show(number);
+    }
+}
+
+/// Adds a text in quotes. In an escape string a backslash means itself whatever standard_conforming_strings is, and a
+/// text with a dollar sign ends no body that stands between dollar signs.
+fn add_text(sql: &mut Printout, text: &Text) {
+    sql.add("(E'");
+    for chunk in text.as_bytes().utf8_chunks() {
+        for character in chunk.valid().chars() {
+            add_quoted(sql, character);
         }
     }
+    sql.add("' COLLATE \"C\")");
 }
 
-/// A constant. A text is compared by its bytes.
-#[derive(Clone, Copy)]
-pub struct Constant<'a>(pub &'a Value);
-
-impl fmt::Display for Constant<'_> {
-    fn fmt<W: fmt::Write>(&self, f: &mut fmt::Formatter<W>) -> fmt::Result {
-        match self.0 {
-            Value::Null => write!(f, "NULL"),
-            Value::Int(number) if *number < 0 => write!(f, "({number})"),
-            Value::Int(number) => write!(f, "{number}"),
-            Value::Text(text) => {
-                let quoted = QuotedText(text);
-                write!(f, "({quoted} COLLATE \"C\")")
-            }
-        }
+fn add_quoted(sql: &mut Printout, character: char) {
+    match character {
+        '\'' => sql.add("''"),
+        '\\' => sql.add("\\\\"),
+        '$' => sql.add("\\x24"),
+        other => sql.add_character(other),
     }
 }
 
-/// A text in quotes. In an escape string a backslash means itself whatever standard_conforming_strings is, and a text
-/// with a dollar sign ends no body that stands between dollar signs.
-#[derive(Clone, Copy)]
-pub struct QuotedText<'a>(pub &'a Text);
-
-impl fmt::Display for QuotedText<'_> {
-    fn fmt<W: fmt::Write>(&self, f: &mut fmt::Formatter<W>) -> fmt::Result {
-        write!(f, "E'")?;
-        for byte in self.0.as_bytes() {
-            match *byte {
-                b'\'' => write!(f, "''")?,
-                b'\\' => write!(f, "\\\\")?,
-                b'$' => write!(f, "\\x24")?,
-                other => {
-                    let character = char::from(other);
-                    write!(f, "{character}")?
-                }
-            }
-        }
-        write!(f, "'")
-    }
-}
-
-/// A set function over the columns of a row that goes by a name. A SUM is of type numeric, so it is exact.
-#[derive(Clone, Copy)]
-pub struct SetFunction<'a> {
-    pub aggregate: Aggregate,
-    pub row: &'a str,
-    pub columns: &'a [Column],
-}
-
-impl fmt::Display for SetFunction<'_> {
-    fn fmt<W: fmt::Write>(&self, f: &mut fmt::Formatter<W>) -> fmt::Result {
-        let (word, place) = match self.aggregate {
-            Aggregate::CountRows => return write!(f, "count(*)"),
-            Aggregate::Count(place) => ("count", place),
-            Aggregate::Sum(place) => ("sum", place),
-            Aggregate::Min(place) => ("min", place),
-            Aggregate::Max(place) => ("max", place),
-        };
-        let row = self.row;
-        let column = ColumnName {
-            columns: self.columns,
-            place,
-        };
-        write!(f, "{word}({row}.{column})")
-    }
-}
-
-/// The sign of a comparison.
-pub fn sign(comparison: Comparison) -> &'static str {
-    match comparison {
-        Comparison::Equal => "=",
-        Comparison::NotEqual => "<>",
-        Comparison::Less => "<",
-        Comparison::AtMost => "<=",
-        Comparison::Greater => ">",
-        Comparison::AtLeast => ">=",
-    }
+/// Adds a set function over the columns of a row that goes by a name. A SUM is of type numeric, so it is exact.
+pub fn add_set_function(sql: &mut Printout, aggregate: Aggregate, row: &str, columns: &[Column]) {
+    let (word, place) = match aggregate {
+        Aggregate::CountRows => return sql.add("count(*)"),
+        Aggregate::Count(place) => ("count(", place),
+        Aggregate::Sum(place) => ("sum(", place),
+        Aggregate::Min(place) => ("min(", place),
+        Aggregate::Max(place) => ("max(", place),
+    };
+    sql.add(word);
+    add_column(sql, row, columns, place);
+    sql.add(")");
 }

@@ -1,5 +1,6 @@
 mod Parts
 mod Places
+mod LastEnds
 mod Yields
 mod Numerals
 mod Rules

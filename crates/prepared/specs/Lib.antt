@@ -1,4 +1,5 @@
 pub mod Masks
+pub mod Ends
 pub mod Numbers
 pub mod Constants
 pub mod Conditions

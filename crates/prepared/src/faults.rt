@@ -17,8 +17,8 @@ pub enum FillFault {
     /// The number is below -10^15 or above 10^15.
     #[error("parameter {parameter} is a number beyond 10^15")]
     NumberOutOfRange { parameter: usize },
-    /// The text has a byte outside of 0x20 to 0x7E.
-    #[error("parameter {parameter} is a text with a byte that no text may have")]
+    /// The text is ill-formed UTF-8, or has a control character of ASCII.
+    #[error("parameter {parameter} is a text that is no UTF-8, or has a control character")]
     TextNotPlain { parameter: usize },
 }
 

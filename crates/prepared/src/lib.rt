@@ -18,17 +18,21 @@
 //! that an UPDATE gives to a column (also in parentheses, which a tree doesn't keep). Elsewhere it is refused; a
 //! condition tests for NULL by IS NULL. Whether a value fits its column is for the run to say, as of a constant.
 //!
-//! The definitions are in `specs/`: `Masks` (the mask of a text), `Numbers` (which numbers are parameters, and where
-//! none may stand), `Constants`, `Conditions` and `Statements` (a tree with values in the places of its parameters, a
-//! walk in reading order), and `Prepared` (what the public calls say). Two laws stand beside them.
-//! [`event_has_the_numbers_of_its_text`]: the n-th number of a tree is the n-th among the tokens of its text, which is
-//! what lets values be put into the tree. [`filled_event_is_written`]: values that are numbers and texts, for an INSERT
-//! also NULL, filled in, give the event of each text that has them written in the places of its parameters.
+//! A text is one statement. Scripts have a `;` behind each, and [`without_semicolon`] takes it off.
+//!
+//! The definitions are in `specs/`: `Masks` (the mask of a text), `Ends` (the `;` at its end), `Numbers` (which numbers
+//! are parameters, and where none may stand), `Constants`, `Conditions` and `Statements` (a tree with values in the
+//! places of its parameters, a walk in reading order), and `Prepared` (what the public calls say). Two laws stand
+//! beside them. [`event_has_the_numbers_of_its_text`]: the n-th number of a tree is the n-th among the tokens of its
+//! text, which is what lets values be put into the tree. [`filled_event_is_written`]: values that are numbers and
+//! texts, for an INSERT also NULL, filled in, give the event of each text that has them written in the places of its
+//! parameters.
 #![tactic(auto)]
 
 mod conditions;
 mod constants;
 mod copies;
+mod ends;
 mod faults;
 mod laws;
 mod masks;
@@ -36,6 +40,8 @@ mod numbers;
 mod prepared;
 mod statements;
 
+pub use ends::without_semicolon;
 pub use faults::FillFault;
 pub use laws::{event_has_the_numbers_of_its_text, filled_event_is_written};
+pub use masks::mask;
 pub use prepared::{Prepared, prepare};

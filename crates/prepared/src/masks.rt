@@ -20,14 +20,14 @@ fn is_question_at(text: &[u8], at: usize) -> bool
 
 /// What stands next in a text: a token with its end, or a parameter.
 #[derive(Clone, Copy, Debug)]
-enum Next {
+pub enum Next {
     Token(usize),
     Parameter(usize),
 }
 
 /// What stands next from an offset on, if it is one of the two.
 #[tactic(auto, unfolding(crate::specs::Masks::next_at))]
-fn find_next(text: &[u8], from: usize) -> Option<Next>
+pub fn find_next(text: &[u8], from: usize) -> Option<Next>
     ensures value { result ≡ spec.next_at text.now from }
     ensures within { IfSome result (λ next. (at : ℕ) → next ≡ which.Parameter at → at < length text.now) }
 {

@@ -10,4 +10,5 @@ pub mod LinkedLemmas
 pub mod MaintainedLemmas
 pub mod ListedLemmas
 pub mod LoadedLemmas
+pub mod TurnedLemmas
 pub mod UpdateLemmas

@@ -23,7 +23,7 @@ use Rattle.assertion.specs.Meaning.{State}
 use Rattle.assertion.specs.Roots.{is_bad_root, is_among, AreBad}
 use Rattle.assertion.specs.Changes.{IsOrdered, IsChangeOf, state_after}
 use Rattle.assertion.proofs.KeptTruth.{kept_truth}
-use Rattle.roots.specs.Bad.{put_root, is_touched, AreUpdated}
+use Rattle.roots.specs.Bad.{put_root, is_touched, AreUpdated, KeepOthers}
 use Rattle.roots.specs.Maintained.{IsSmallRoot}
 
 -- the roots after one is put in or taken out
@@ -104,17 +104,20 @@ touched-before ts i p q ne h before here same d =
     let at_i : p ≡ get_or ts i d = same ∙ here ∙ get_or_default ts i q d h in
     subst (λ r. is_touched r (take i ts) ≡ true) at_i (subst (λ n. is_touched p (take n ts) ≡ true) e (touched-last ts (i - 1) p (omega (arith, low, h)) before))
 
--- the bad roots after a change, where all its candidates were looked at
-pub AreBad-after : (layouts : List Layout) (change : Change) (state after : State) (form : Form) (bad made : List Root) → IsChangeOf layouts change state → IsOrdered layouts state → after ≡ state_after layouts change state
-    → AreBad layouts form state bad → AreUpdated layouts form after (candidates layouts after change form) bad made → AreBad layouts form after made
-AreBad-after layouts change state after form bad made is asc now old u = record {
+-- each root that is no candidate of a change keeps its truth
+pub candidates_keep : (layouts : List Layout) (change : Change) (state : State) (form : Form) → IsChangeOf layouts change state → IsOrdered layouts state → KeepOthers layouts form state (state_after layouts change state) (candidates layouts (state_after layouts change state) change form)
+candidates_keep layouts change state form is asc r h = kept_truth layouts change state is asc form r (sym (is_touched-has r (candidates layouts (state_after layouts change state) change form)) ∙ h)
+
+-- the bad roots of a state, where those at which it can differ from another were looked at
+pub AreBad-after : (layouts : List Layout) (before after : State) (form : Form) (bad made touched : List Root) → AreBad layouts form before bad → KeepOthers layouts form before after touched → AreUpdated layouts form after touched bad made → AreBad layouts form after made
+AreBad-after layouts before after form bad made touched old others u = record {
   in_order = u.in_order;
-  exact = λ r. u.right r ∙ case r (is_touched r (candidates layouts after change form)) refl;
+  exact = λ r. u.right r ∙ case r (is_touched r touched) refl;
 }
   where
-    case : (r : Root) (t : Bool) → is_touched r (candidates layouts after change form) ≡ t → (if t then is_bad_root layouts form after r else is_among r bad) ≡ is_bad_root layouts form after r
+    case : (r : Root) (t : Bool) → is_touched r touched ≡ t → (if t then is_bad_root layouts form after r else is_among r bad) ≡ is_bad_root layouts form after r
     case r true e = refl
-    case r false e = old.exact r ∙ sym (ap (λ s. is_bad_root layouts form s r) now ∙ kept_truth layouts change state is asc form r (ap (λ s. has root_cmp r (candidates layouts s change form)) (sym now) ∙ sym (is_touched-has r (candidates layouts after change form)) ∙ e))
+    case r false e = old.exact r ∙ sym (others r e)
 
 -- the candidates by groups are values of the rows
 pub column_small : (row : RowValues) (c : ℕ) → IsSmallRow row → magnitude (value_in c row) ≤ 10 ^ 15

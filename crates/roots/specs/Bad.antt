@@ -86,6 +86,11 @@ abbrev pub is_touched : Root → List Root → Bool
 is_touched root [] = false
 is_touched root (r ∷ rs) = eq_by_cmp root_cmp root r || is_touched root rs
 
+-- each root that is not among these is bad of one state where it is bad of the other
+abbrev pub KeepOthers : List Layout → Form → State → State → List Root → Type 0
+KeepOthers layouts form before after touched =
+    (r : Root) → is_touched r touched ≡ false → is_bad_root layouts form after r ≡ is_bad_root layouts form before r
+
 -- the list is another with each of the touched roots in or out as it is bad
 pub record AreUpdated (layouts : List Layout) (form : Form) (state : State)
     (touched bad made : List Root) : Type 0 where

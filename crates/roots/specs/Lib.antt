@@ -6,3 +6,4 @@ pub mod Listed
 pub mod Over
 pub mod Shown
 pub mod Summaries
+pub mod Turned

@@ -1,11 +1,12 @@
 //! Totals of a query whose filter asks what the row around holds: one for each row around, of the rows that are linked
 //! to it and that the filter keeps beside it.
 
-ghost use Rattle.std.specs.Prelude.{◌≡◌, ◌<◌, ◌^◌, ◌++◌, ◌∷◌, ◌&&◌, [], ℕ, false, All, List, Some, filter, length, map, IfOk};
+ghost use Rattle.std.specs.Prelude.{◌≡◌, ◌<◌, ◌^◌, ◌++◌, ◌∷◌, ◌&&◌, ◌||◌, [], ℕ, false, All, List, Some, filter, flat_map, if◌then◌else◌, length, map, IfOk, OnOk};
 ghost use Rattle.std.specs.Ordering.{eq_by_cmp};
 ghost use Rattle.value.specs.Ordered.{HoldsOf, IsAscending};
 ghost use Rattle.value.specs.ValueOrder.{value_cmp};
 ghost use Rattle.value.specs.declared.values.Value.{Value as values};
+ghost use Rattle.value.specs.declared.values.Root.TheVariants.{Of};
 ghost use Rattle.value.specs.declared.values.Value.TheVariants.{Null};
 ghost use Rattle.table.specs.Bounds.{IsSmallRow};
 ghost use Rattle.table.specs.Eval.{keeps as keeps_of};
@@ -21,6 +22,7 @@ ghost use Rattle.roots.specs.Around.{IsTurn, around_members, is_equal as is_equa
 ghost use Rattle.roots.specs.Maintained.{AreTotalsFor, IsKeyed, IsSmallState, IsStepOf};
 ghost use Rattle.roots.specs.Shown.{lent_query};
 ghost use Rattle.roots.specs.Summaries.{around_of, rows_beside};
+ghost use Rattle.roots.specs.Turned.{linked_around, turned_around, turned_root};
 
 use crate::grouped::{Around, Summary, counted_by};
 use assertion::Link;
@@ -29,7 +31,7 @@ use mvrows::Rows;
 use std::alloc::{AllocError, Global};
 use std::cmp::Ordering;
 use table::{Change, Row, Schema, Slots, keeps, key_column, value_at, value_or};
-use value::{Value, compare, order};
+use value::{Root, Value, compare, order};
 
 /// The totals for the rows around in these tables. For each of them the rows that are linked to it are looked at.
 pub fn totals_around(
@@ -206,7 +208,7 @@ fn counted_if_kept(
 }
 
 /// The totals after a change: the changed row around has its total made anew, and that of each row around to which the
-/// old or the new row is linked is carried on.
+/// old or the new row is linked is carried on. The roots whose totals turn with it are put behind the `turned` ones.
 pub fn around_after(
     alloc: Global,
     schemas: &[Schema],
@@ -216,13 +218,16 @@ pub fn around_after(
     around: Around,
     totals: &Totals,
     change: &Change,
+    turned: &mut Vec<Root>,
 ) -> Result<Totals, AllocError>
     requires bounded { IsBoundedOver [] summary.filter.now }
     requires step { IsStepOf schemas.now change.now before.now after.now }
     requires around { around_of summary.grouping ≡ Some around }
     requires keyed { IsKeyed schemas.now (lent_query summary) }
     requires totals { AreTotalsFor before.now (lent_query summary) totals.now }
-    ensures { IfOk result (AreTotalsFor after.now (lent_query summary.entry)) }
+    ensures totals { IfOk result (AreTotalsFor after.now (lent_query summary.entry)) }
+    ensures turned { OnOk result (turned.new.items
+        ≡ turned.old.items ++ turned_around around after.now change.now (lent_query summary.entry)) }
 {
     let same = totals.copy()?;
     let made = outer_after(alloc, schemas, before, after, summary, around, same, change)?;
@@ -230,7 +235,7 @@ pub fn around_after(
         return Ok(made);
     }
     match after.get(around.table) {
-        Some(outer) => linked_after(alloc, outer, summary, around, made, change),
+        Some(outer) => linked_after(alloc, outer, summary, around, made, change, turned),
         None => Ok(made),
     }
 }
@@ -263,7 +268,8 @@ fn outer_after(
     }
 }
 
-/// The totals for these rows around, after a change of the rows that are linked to them.
+/// The totals for these rows around, after a change of the rows that are linked to them. The roots whose totals
+/// turn are put behind the `turned` ones.
 fn linked_after(
     alloc: Global,
     outer: &Rows,
@@ -271,13 +277,14 @@ fn linked_after(
     around: Around,
     totals: Totals,
     change: &Change,
+    turned: &mut Vec<Root>,
 ) -> Result<Totals, AllocError>
     requires bounded { IsBoundedOver [] summary.filter.now }
     requires old_small { HoldsOf IsSmallRow change.now.old }
     requires new_small { HoldsOf IsSmallRow change.now.new }
     requires outer_small { All IsSmallRow outer.now }
     requires in_order { IsAscending value_cmp (value_in around.key) outer.now }
-    ensures { IfOk result (λ made. (key : ℕ) (rows : List RowValues)
+    ensures totals { IfOk result (λ made. (key : ℕ) (rows : List RowValues)
         → row_at key change.now.key rows ≡ change.now.old
         → AreWithin (around_members around (lent_query summary.entry) outer.now rows)
         → AreWithin (around_members around (lent_query summary.entry) outer.now
@@ -285,15 +292,18 @@ fn linked_after(
         → AreTotalsOf summary.entry.aggregate (around_members around (lent_query summary.entry) outer.now rows) totals
         → AreTotalsOf summary.entry.aggregate (around_members around (lent_query summary.entry) outer.now
         (put_row key change.now.key change.now.new rows)) made) }
+    ensures turned { OnOk result (turned.new.items ≡ turned.old.items
+        ++ flat_map (turned_root around (lent_query summary.entry).filter change.now)
+        (linked_around around change.now outer.now)) }
 {
     let null = Value::Null;
     let old = value_of(&change.old, around.link.inner, &null);
     let new = value_of(&change.new, around.link.inner, &null);
-    let made = linked_to(alloc, outer, summary, around, totals, change, old)?;
+    let made = linked_to(alloc, outer, summary, around, totals, change, old, turned)?;
     match order(old, new) {
         Ordering::Equal => Ok(made),
         Ordering::Less | Ordering::Greater => linked_to(
-            alloc, outer, summary, around, made, change, new,
+            alloc, outer, summary, around, made, change, new, turned,
         ),
     }
 }
@@ -310,6 +320,7 @@ fn value_of<'a>(row: &'a Option<Row>, column: usize, null: &'a Value) -> &'a Val
 }
 
 /// The totals after a change, for those of these rows around that have a value in the column of the link.
+/// The roots whose totals turn are put behind the `turned` ones.
 fn linked_to(
     alloc: Global,
     outer: &Rows,
@@ -318,28 +329,33 @@ fn linked_to(
     totals: Totals,
     change: &Change,
     value: &Value,
+    turned: &mut Vec<Root>,
 ) -> Result<Totals, AllocError>
     requires bounded { IsBoundedOver [] summary.filter.now }
     requires old_small { HoldsOf IsSmallRow change.now.old }
     requires new_small { HoldsOf IsSmallRow change.now.new }
     requires outer_small { All IsSmallRow outer.now }
     requires in_order { IsAscending value_cmp (value_in around.key) outer.now }
-    ensures { IfOk result (λ made. (key : ℕ) (rows : List RowValues) (before after : Members)
+    ensures totals { IfOk result (λ made. (key : ℕ) (rows : List RowValues) (before after : Members)
         → row_at key change.now.key rows ≡ change.now.old
         → IsTurn around (lent_query summary.entry) outer.now value.now rows
         (put_row key change.now.key change.now.new rows) before after
         → AreTotalsOf summary.entry.aggregate before totals
         → AreTotalsOf summary.entry.aggregate after made) }
+    ensures turned { OnOk result (turned.new.items ≡ turned.old.items
+        ++ flat_map (turned_root around (lent_query summary.entry).filter change.now)
+        (filter (λ row. is_equal_of value.now (value_in around.link.outer row)) outer.now)) }
 {
     let rows = rows_equal_to(alloc, outer, around.key, around.link.outer, value)?;
     let mut made = totals;
     for row in &rows {
-        made = beside_one(alloc, summary, around, made, change, row)?;
+        made = beside_one(alloc, summary, around, made, change, row, turned)?;
     }
     Ok(made)
 }
 
-/// The totals with that of one row around carried on through a change of the rows beside it.
+/// The totals with that of one row around carried on through a change of the rows beside it. Where the
+/// old or the new row is beside it, its root is put behind the `turned` ones; else the totals stay.
 fn beside_one(
     alloc: Global,
     summary: Summary,
@@ -347,12 +363,13 @@ fn beside_one(
     totals: Totals,
     change: &Change,
     row: &Row,
+    turned: &mut Vec<Root>,
 ) -> Result<Totals, AllocError>
     requires bounded { IsBoundedOver [] summary.filter.now }
     requires old_small { HoldsOf IsSmallRow change.now.old }
     requires new_small { HoldsOf IsSmallRow change.now.new }
     requires row_small { IsSmallRow row.now }
-    ensures { IfOk result (λ made. (key : ℕ) (rows : List RowValues) (before after : Members)
+    ensures totals { IfOk result (λ made. (key : ℕ) (rows : List RowValues) (before after : Members)
         → row_at key change.now.key rows ≡ change.now.old
         → before (value_in around.key row.now) ≡ values_beside around (lent_query summary.entry) rows row.now
         → after (value_in around.key row.now)
@@ -361,11 +378,31 @@ fn beside_one(
         → AreWithin after
         → AreTotalsOf summary.entry.aggregate before totals
         → AreTotalsOf summary.entry.aggregate after made) }
+    ensures turned { OnOk result (turned.new.items
+        ≡ turned.old.items ++ turned_root around (lent_query summary.entry).filter change.now row.now) }
 {
     let slots = Slots::of_row(alloc, row)?;
     let remove = member_beside(summary, around, &change.old, row, &slots)?;
     let add = member_beside(summary, around, &change.new, row, &slots)?;
+    push_turned(turned, remove.is_some(), add.is_some(), around.key, row)?;
     totals.with(summary.aggregate, &add, &remove)
+}
+
+/// Puts the root of a row around behind the roots, if the old or the new row of a change is beside it.
+fn push_turned(
+    roots: &mut Vec<Root>,
+    is_old_beside: bool,
+    is_new_beside: bool,
+    key: usize,
+    row: &Row,
+) -> Result<(), AllocError>
+    ensures { OnOk result (roots.new.items ≡ roots.old.items
+        ++ (if is_old_beside || is_new_beside then Of (value_in key row.now) ∷ [] else [])) }
+{
+    if is_old_beside || is_new_beside {
+        roots.push(Root::Of(value_at(row, key)?))?;
+    }
+    Ok(())
 }
 
 /// What a row, if there is one, is to the group of one row around, if it is of that group.

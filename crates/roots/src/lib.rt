@@ -17,16 +17,17 @@
 //!
 //! - [`candidates`] are the roots that changes can turn, in order, by the tables after them; every other root keeps its
 //!   truth.
-//! - [`totals_of`] and [`totals_after`] are the maintained totals of tables, made in one pass, and after a change. A
-//!   row that moves leaves its old group, and a group without rows has no entry. Where the rows around are the groups,
-//!   a changed row is counted up and down at each row around to which it is linked, and a row around that is new or
-//!   another has its total made anew, so that a change costs in proportion to its group.
+//! - [`totals_of`] are the maintained totals of tables, made in one pass. A group without rows has no entry.
 //! - [`is_bad`] is whether the assertion is false at one root, from the row under that key, where the form is by
 //!   rows, and the maintained totals.
-//! - [`bad_of`] and [`bad_after`] are the bad roots, in order, as a [`BadRoots`], of which every version stays whole.
-//!   Of tables only the roots that rows name are evaluated, since no other can be bad. After a change its candidates
-//!   are evaluated and no other root is: one that turned bad is put in, one that was mended is taken out, and the
-//!   rest stays.
+//! - [`bad_of`] are the bad roots, in order, as a [`BadRoots`], of which every version stays whole. Of tables only the
+//!   roots that rows name are evaluated, since no other can be bad.
+//! - [`maintained_after`] are both after a change. A row that moves leaves its old group. Where the rows around are the
+//!   groups, a changed row is counted up and down at each row around to which it is linked, and a row around that is
+//!   new or another has its total made anew, so that a change costs in proportion to its group. Then the candidates are
+//!   evaluated and no other root is: one that turned bad is put in, one that was mended is taken out, and the rest
+//!   stays. Where the rows around are the groups of all summaries, of the candidates that linked rows find only those
+//!   are evaluated beside which the old or the new row is: of the others the row and the totals stay, and so the truth.
 //! - [`is_over`] is whether an assertion is over a table. A change of another one has no candidates, and what is
 //!   maintained stays right as it is.
 //! - [`truth_of`] is the assertion's truth: by rows and by groups whether there is a bad root, of a single condition
@@ -39,9 +40,10 @@
 //! are within the bounds of a column, and fewer than 2^63 in a table; the maintained totals are those of some tables.
 //!
 //! The definitions are in `specs/`: `Summaries` (the queries of the slots, and those whose totals are maintained),
-//! `Around` (groups that are rows around), `Maintained` (maintained totals of tables, and bounds), `Answers` (what the
-//! queries give), `Bad` (rows of roots, and lists of bad roots), `Listed` (how such a list is held), `Over` (the tables
-//! of an assertion) and `Shown` (what is lent from a form). Truth, bad roots and candidates are those of `assertion`.
+//! `Around` (groups that are rows around), `Turned` (the roots whose totals a change turns there), `Maintained`
+//! (maintained totals of tables, and bounds), `Answers` (what the queries give), `Bad` (rows of roots, and lists of bad
+//! roots), `Listed` (how such a list is held), `Over` (the tables of an assertion) and `Shown` (what is lent from a
+//! form). Truth, bad roots and candidates are those of `assertion`.
 #![tactic(auto)]
 
 mod answers;
@@ -57,5 +59,5 @@ mod updates;
 pub use bad_roots::{is_bad, truth_of};
 pub use candidate_roots::{candidates, is_over};
 pub use lists::BadRoots;
-pub use maintained::{totals_after, totals_of};
-pub use updates::{bad_after, bad_of, row_under};
+pub use maintained::totals_of;
+pub use updates::{bad_of, maintained_after, row_under};

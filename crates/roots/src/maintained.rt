@@ -1,6 +1,6 @@
 //! The maintained totals of a form, of tables and after a change.
 
-ghost use Rattle.std.specs.Prelude.{◌≡◌, ◌<◌, ◌^◌, ◌++◌, ◌∷◌, [], All, List, length, IfOk};
+ghost use Rattle.std.specs.Prelude.{◌≡◌, ◌<◌, ◌^◌, ◌++◌, ◌∷◌, [], All, List, length, IfOk, OnOk, IsTrue};
 ghost use Rattle.value.specs.Ordered.{HoldsOf};
 ghost use Rattle.table.specs.Rows.{Layout, RowValues};
 ghost use Rattle.table.specs.Bounds.{IsSmallRow};
@@ -10,7 +10,8 @@ ghost use Rattle.assertion.specs.Changes.{IsChangeOf, IsOrdered, state_after};
 ghost use Rattle.groups.specs.Totals.{AreTotalsOf, AreWithin};
 ghost use Rattle.roots.specs.Maintained.{AreMaintained, AreTotalsFor, IsKeyed, IsSmallState, IsStepOf};
 ghost use Rattle.roots.specs.Shown.{lent_query};
-ghost use Rattle.roots.specs.Summaries.{row_members};
+ghost use Rattle.roots.specs.Summaries.{around_of, row_members, summaries_of};
+ghost use Rattle.roots.specs.Turned.{AreAllAround, turned_by, turned_roots};
 
 use crate::around::{around_after, totals_around};
 use crate::grouped::{Summary, member, member_of_row, rows_around};
@@ -20,6 +21,7 @@ use groups::Totals;
 use mvrows::Rows;
 use std::alloc::{AllocError, Global};
 use table::{Change, Row, Schema};
+use value::Root;
 
 /// The totals to keep for a form on these tables. Each is made in one pass over the rows of its table; where the rows
 /// around are its groups, in one over those, for each of which the rows that are linked to it are looked at.
@@ -109,6 +111,7 @@ fn total_with(
 }
 
 /// The totals to keep after a change: those of the tables after it, where the old ones are those of the tables before.
+/// The roots of rows around whose totals turn with it are put behind the `turned` ones.
 pub fn totals_after(
     alloc: Global,
     schemas: &[Schema],
@@ -117,18 +120,21 @@ pub fn totals_after(
     form: &Form,
     totals: &[Totals],
     change: &Change,
+    turned: &mut Vec<Root>,
 ) -> Result<Vec<Totals>, AllocError>
     requires bounded { IsBounded form.now }
     requires step { IsStepOf schemas.now change.now before.now after.now }
     requires totals { AreMaintained schemas.now before.now form.now totals.now }
-    ensures { IfOk result (λ made. AreMaintained schemas.now after.now form.now made.items) }
+    ensures totals { IfOk result (λ made. AreMaintained schemas.now after.now form.now made.items) }
+    ensures turned { OnOk result (turned.new.items
+        ≡ turned.old.items ++ turned_roots after.now change.now (summaries_of schemas.now form.now)) }
 {
     let count = summary_count(form);
     let mut made = Vec::with_capacity(alloc, count)?;
     for index in 0..count {
         let summary = summary_of(schemas, form, index);
         let old = &totals[index];
-        made.push(total_after(alloc, schemas, before, after, summary, old, change)?)?;
+        made.push(total_after(alloc, schemas, before, after, summary, old, change, turned)?)?;
     }
     Ok(made)
 }
@@ -142,16 +148,19 @@ fn total_after(
     summary: Summary,
     totals: &Totals,
     change: &Change,
+    turned: &mut Vec<Root>,
 ) -> Result<Totals, AllocError>
     requires bounded { IsBoundedOver [] summary.filter.now }
     requires step { IsStepOf schemas.now change.now before.now after.now }
     requires keyed { IsKeyed schemas.now (lent_query summary) }
     requires totals { AreTotalsFor before.now (lent_query summary) totals.now }
-    ensures { IfOk result (AreTotalsFor after.now (lent_query summary.entry)) }
+    ensures totals { IfOk result (AreTotalsFor after.now (lent_query summary.entry)) }
+    ensures turned { OnOk result (turned.new.items ≡ turned.old.items
+        ++ turned_by after.now change.now (lent_query summary.entry) (around_of summary.entry.grouping)) }
 {
     match rows_around(summary.grouping) {
         Some(around) => around_after(
-            alloc, schemas, before, after, summary, around, totals, change,
+            alloc, schemas, before, after, summary, around, totals, change, turned,
         ),
         None => total_with_change(alloc, summary, totals, change),
     }
@@ -182,4 +191,17 @@ fn total_with_change(
     let remove = member(alloc, summary, &change.old)?;
     let add = member(alloc, summary, &change.new)?;
     same.with(summary.aggregate, &add, &remove)
+}
+
+/// Whether each row around is a group, in all summaries of a form.
+pub fn are_all_around(schemas: &[Schema], form: &Form) -> bool
+    ensures { IsTrue result → AreAllAround (summaries_of schemas.now form.now) }
+{
+    for index in 0..summary_count(form) {
+        match rows_around(summary_of(schemas, form, index).grouping) {
+            Some(_) => {}
+            None => return false,
+        }
+    }
+    true
 }

@@ -1,10 +1,11 @@
 //! The maintained bad roots of a form, of tables and after a change.
 
-ghost use Rattle.std.specs.Prelude.{◌≡◌, ◌<◌, true, All, length, take, slice_index_or, IfOk, IsTrue};
+ghost use Rattle.std.specs.Prelude.{◌≡◌, ◌<◌, ◌++◌, ◌∷◌, ◌==◌, [], true, All, if◌then◌else◌, length, take, slice_index_or, IfOk, IsTrue, OnOk};
 ghost use Rattle.std.specs.Option.{option_copied};
 ghost use Rattle.value.specs.Ordered as ordered;
 ghost use Rattle.value.specs.ValueOrder.{root_cmp};
 ghost use Rattle.value.specs.declared.values.Root.{Root as roots};
+ghost use Rattle.value.specs.declared.values.Root.TheVariants.{Of};
 ghost use Rattle.table.specs.Rows.{row_at, key_of};
 ghost use Rattle.table.specs.Bounds.{IsSmallRow};
 ghost use Rattle.assertion.specs.Bounded.{IsBounded};
@@ -12,12 +13,15 @@ ghost use Rattle.assertion.specs.Candidates.{group_candidates};
 ghost use Rattle.assertion.specs.Meaning.{State, rows_of};
 ghost use Rattle.assertion.specs.Roots.{AreBad, is_bad_root};
 ghost use Rattle.assertion.specs.Changes.{IsChangeOf, IsOrdered, state_after};
-ghost use Rattle.roots.specs.Bad.{AreUpdated, IsRowOf, is_touched, named_roots as named_roots_of, put_root};
-ghost use Rattle.roots.specs.Maintained.{AreMaintained, IsSmallRoot, IsSmallState};
+ghost use Rattle.roots.specs.Bad.{AreUpdated, IsRowOf, KeepOthers, is_touched, named_roots as named_roots_of, put_root};
+ghost use Rattle.roots.specs.Maintained.{AreMaintained, IsSmallRoot, IsSmallState, IsStepOf};
+ghost use Rattle.roots.specs.Summaries.{summaries_of};
+ghost use Rattle.roots.specs.Turned.{turned_roots};
 
 use crate::bad_roots::is_bad;
 use crate::candidate_roots::push_candidates;
 use crate::lists::BadRoots;
+use crate::maintained::{are_all_around, totals_after};
 use assertion::Form;
 use groups::Totals;
 use mvrows::Rows;
@@ -94,30 +98,84 @@ fn roots_in_rows(alloc: Global, rows: &Rows, column: usize) -> Result<Vec<Root>,
     Ok(roots)
 }
 
-/// The bad roots after a change, in order: `tables` and `totals` are those after it, `bad` the bad roots before. Only
-/// the candidates of the change are looked at, and each other root is bad where it was.
-pub fn bad_after(
+/// What is maintained for a form after a change, where it was right before it: the totals of the tables after it, and
+/// their bad roots in order. Only roots at which the change can turn the form are looked at, and each other root is bad
+/// where it was. Of the rows to which a changed row is linked, where these are the groups of the totals, those are left
+/// out whose totals stay, since the same row with the same totals has the same truth.
+pub fn maintained_after(
     alloc: Global,
     schemas: &[Schema],
-    tables: &[Rows],
+    before: &[Rows],
+    after: &[Rows],
     form: &Form,
     totals: &[Totals],
     bad: &BadRoots,
     change: &Change,
-) -> Result<BadRoots, AllocError>
+) -> Result<(Vec<Totals>, BadRoots), AllocError>
     requires bounded { IsBounded form.now }
-    requires small { IsSmallState tables.now }
+    requires step { IsStepOf schemas.now change.now before.now after.now }
+    requires totals { AreMaintained schemas.now before.now form.now totals.now }
+    requires bad { AreBad schemas.now form.now before.now bad.now }
+    ensures totals { IfOk result (λ made. AreMaintained schemas.now after.now form.now made.0.items) }
+    ensures bad { IfOk result (λ made. AreBad schemas.now form.now after.now made.1) }
+{
+    let mut turned = Vec::new(alloc);
+    let made = totals_after(
+        alloc,
+        schemas,
+        before,
+        after,
+        form,
+        totals,
+        change,
+        &mut turned,
+    )?;
+    let touched = touched_roots(alloc, schemas, after, form, change, turned)?;
+    let bad = roots_after_update(alloc, schemas, after, form, &made, bad, &touched)?;
+    Ok((made, bad))
+}
+
+/// The roots at which a change can turn a form, where `turned` are those whose totals for rows around turn with it.
+fn touched_roots(
+    alloc: Global,
+    schemas: &[Schema],
+    tables: &[Rows],
+    form: &Form,
+    change: &Change,
+    turned: Vec<Root>,
+) -> Result<Vec<Root>, AllocError>
     requires old_small { ordered.HoldsOf IsSmallRow change.now.old }
     requires new_small { ordered.HoldsOf IsSmallRow change.now.new }
-    requires totals { AreMaintained schemas.now tables.now form.now totals.now }
-    ensures { IfOk result (λ made. (before : State) → IsOrdered schemas.now before
-        → IsChangeOf schemas.now change.now before
-        → tables.now ≡ state_after schemas.now change.now before → AreBad schemas.now form.now before bad.now
-        → AreBad schemas.now form.now tables.now made) }
+    requires turned { turned.items ≡ turned_roots tables.now change.now (summaries_of schemas.now form.now) }
+    ensures small { IfOk result (λ touched. All (IsSmallRoot form.now) touched.items) }
+    ensures others { IfOk result (λ touched. (before : State) → IsOrdered schemas.now before
+        → IsChangeOf schemas.now change.now before → tables.now ≡ state_after schemas.now change.now before
+        → KeepOthers schemas.now form.now before tables.now touched.items) }
 {
+    match form {
+        Form::ByRow { table, .. } => {
+            if are_all_around(schemas, form) {
+                let mut touched = turned;
+                push_own_key(&mut touched, *table, change)?;
+                return Ok(touched);
+            }
+        }
+        Form::ByGroup { .. } | Form::Single { .. } => {}
+    }
     let mut touched = Vec::new(alloc);
     push_candidates(&mut touched, schemas, tables, form, change)?;
-    roots_after_update(alloc, schemas, tables, form, totals, bad, &touched)
+    Ok(touched)
+}
+
+/// Puts the root under the key of a changed row behind the roots, where the row is of their table.
+fn push_own_key(roots: &mut Vec<Root>, table: usize, change: &Change) -> Result<(), AllocError>
+    ensures { OnOk result (roots.new.items ≡ roots.old.items
+        ++ (if table == change.now.table then Of change.now.key ∷ [] else [])) }
+{
+    if table == change.table {
+        roots.push(Root::Of(change.key.copy()?))?;
+    }
+    Ok(())
 }
 
 /// The roots with each of the touched ones put in where it is bad and taken out where it isn't.

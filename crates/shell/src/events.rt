@@ -21,7 +21,7 @@ use syntax::ScriptLine;
 use value::{Refusal, Text};
 
 /// The name of the input in the line of a piece that is no event.
-const NAME: &str = "SCRIPT";
+pub const NAME: &str = "SCRIPT";
 
 /// So many bytes further on. It stops at the largest place that there is.
 fn forward(at: usize, count: usize) -> usize
@@ -47,7 +47,7 @@ fn refusal_in_input(at: usize, refusal: Refusal) -> Refusal
 
 /// The event of a piece that has a token.
 #[tactic(auto, using(crate::proofs::Refusals::fault_of_memory, crate::proofs::Refusals::fault_of_text, crate::proofs::Refusals::line_of_text))]
-fn read_line(alloc: Global, at: usize, bytes: &[u8]) -> Result<ScriptLine, Refusal>
+pub fn read_line(alloc: Global, at: usize, bytes: &[u8]) -> Result<ScriptLine, Refusal>
     requires some { heading.is_blank bytes.now ≡ false }
     ensures read { IfOk result (IsLineOf bytes.now) }
     ensures refused { IfErr result (IsFaultOf (record { at = at; bytes = bytes.now })) }
@@ -63,7 +63,7 @@ fn read_line(alloc: Global, at: usize, bytes: &[u8]) -> Result<ScriptLine, Refus
 }
 
 /// A seat for a session, if it has none and there is one.
-fn welcome(engine: &mut Engine, session: &Text) -> Result<(), AllocError>
+pub fn welcome(engine: &mut Engine, session: &Text) -> Result<(), AllocError>
     ensures seated { OnOk result (engine.new ≡ engine_with_seat engine.old session.now) }
     ensures same { OnErr result (engine.new ≡ engine.old) }
 {

@@ -26,3 +26,20 @@ impl From<io::Error> for ShellFault {
         ShellFault::Run(ProgramFault::Output)
     }
 }
+
+/// Why a shell on a ledger did not come to its end.
+#[derive(Debug, Drop, Error)]
+pub enum LedgerFault {
+    /// As without a journal.
+    #[error("{0}")]
+    Shell(ShellFault),
+    /// Commits that share a sync could not be written. No answer that waited for it went out.
+    #[error("the journal can't be written")]
+    Journal,
+}
+
+impl From<io::Error> for LedgerFault {
+    fn from(error: io::Error) -> LedgerFault {
+        LedgerFault::Shell(ShellFault::from(error))
+    }
+}

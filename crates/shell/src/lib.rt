@@ -29,9 +29,11 @@ mod events;
 mod faults;
 mod headings;
 mod laws;
+mod ledgers;
 mod shells;
 
 pub use calls::shell_into;
 pub use conversations::converse_into;
-pub use faults::ShellFault;
+pub use faults::{LedgerFault, ShellFault};
 pub use laws::{pieces_are_the_input, quotes_and_comments_are_whole};
+pub use ledgers::{LedgerShell, Pace, Stop};

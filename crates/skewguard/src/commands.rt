@@ -50,6 +50,23 @@ Example:
   ME: INSERT 1
   ME: COMMIT 1";
 
+const AFTER_CHECKPOINT: &str = "\
+A journal grows with each commit, and is read whole when it is opened. The image has the rows alone. It
+takes the journal's place in one step: after a crash too the file is the old one or the new one. Each
+assertion of DEFS has to hold on the rows.";
+
+const AFTER_JOURNAL: &str = "\
+The file is only read, and may be in use. Status 4 says that it is damaged: no crash leaves a file so.
+
+With --commits each changed row is a line: the commit, the table by its place in DEFS from 0 on, and the row
+before and after it.
+
+Example:
+  $ skewguard journal duty --commits
+  commit 1: table 0: ('BOB', 9) -> ('BOB', 8)
+  commit 2: table 0: none -> ('DAN', 8)
+  commit 3: no changes";
+
 const AFTER_CHECK: &str = "\
 Nothing is run. A fault is shown with its line and what may stand there.
 
@@ -90,6 +107,20 @@ The tables with their rows, and triggers that keep each assertion, for an empty 
 Example:
   $ skewguard postgresql defs.sql | psql --set ON_ERROR_STOP=1 rules";
 
+const AFTER_SQLITE: &str = "\
+The rows are those of the last commit that FILE holds, or of DEFS without it. FILE is only read, and may be in use.
+Assertions are not translated: a comment in front names them.
+
+Example:
+  $ skewguard sqlite defs.sql --journal duty | sqlite3 -bail duty.db
+  $ sqlite3 duty.db 'SELECT SHIFT, COUNT(*) FROM DUTY GROUP BY SHIFT'";
+
+/// So many commits share a sync where no number is named.
+const SYNC_EVERY: &str = "1";
+
+/// A journal grows by so many bytes where no number is named.
+const CHECKPOINT_BYTES: &str = "16777216";
+
 /// The words that the program takes.
 pub fn make_command<'a>(alloc: Global) -> Result<Command<'a>, AllocError> {
     Command::new(alloc, "skewguard")
@@ -100,10 +131,13 @@ pub fn make_command<'a>(alloc: Global) -> Result<Command<'a>, AllocError> {
         .subcommand(replay_command(alloc)?)?
         .subcommand(threads_command(alloc)?)?
         .subcommand(shell_command(alloc)?)?
+        .subcommand(checkpoint_command(alloc)?)?
+        .subcommand(journal_command(alloc)?)?
         .subcommand(check_command(alloc)?)?
         .subcommand(explain_command(alloc)?)?
         .subcommand(picture_command(alloc)?)?
-        .subcommand(postgresql_command(alloc)?)
+        .subcommand(postgresql_command(alloc)?)?
+        .subcommand(sqlite_command(alloc)?)
 }
 
 fn replay_command<'a>(alloc: Global) -> Result<Command<'a>, AllocError> {
@@ -128,10 +162,76 @@ fn shell_command<'a>(alloc: Global) -> Result<Command<'a>, AllocError> {
         .long("report")
         .action(ArgAction::SetTrue)
         .help("Prints at the end what replay prints there");
+    let journal = journal_arg(
+        alloc,
+        "Keeps each commit in FILE before it is answered, and goes on from what FILE holds",
+    );
     let command = Command::new(alloc, "shell")
         .about("Answers events from standard input, each at once")
         .after_help(AFTER_SHELL);
-    add_limit(alloc, command.arg(defs)?.arg(report)?)
+    let command = command.arg(defs)?.arg(report)?.arg(journal)?;
+    add_limit(alloc, add_pace(alloc, command)?)
+}
+
+/// The command with the options of a journal that is written.
+fn add_pace<'a>(alloc: Global, command: Command<'a>) -> Result<Command<'a>, AllocError> {
+    let sync_every = Arg::new(alloc, "sync-every")
+        .long("sync-every")
+        .value_name("N")
+        .value_parser(value_parser!(u32).range(1..))
+        .default_value(SYNC_EVERY)
+        .requires_arg("journal")?
+        .help("Up to so many commits share a sync, while whole events are at hand");
+    let checkpoint_bytes = Arg::new(alloc, "checkpoint-bytes")
+        .long("checkpoint-bytes")
+        .value_name("N")
+        .value_parser(value_parser!(u32).range(1..))
+        .default_value(CHECKPOINT_BYTES)
+        .requires_arg("journal")?
+        .help(
+            "Makes a checkpoint where the journal has grown by so many bytes, and to twice its length",
+        );
+    command.arg(sync_every)?.arg(checkpoint_bytes)
+}
+
+/// The option that names the file of a journal.
+fn journal_arg<'a>(alloc: Global, help: &'a str) -> Arg<'a> {
+    Arg::new(alloc, "journal")
+        .long("journal")
+        .value_name("FILE")
+        .help(help)
+}
+
+fn checkpoint_command<'a>(alloc: Global) -> Result<Command<'a>, AllocError> {
+    let defs = Arg::new(alloc, "DEFS")
+        .required(true)
+        .help("A file of definitions: tables and assertions");
+    let journal = journal_arg(alloc, "The file of the journal").required(true);
+    Command::new(alloc, "checkpoint")
+        .about("Puts an image of its rows in a journal's place, under these definitions")
+        .after_help(AFTER_CHECKPOINT)
+        .arg(defs)?
+        .arg(journal)
+}
+
+fn journal_command<'a>(alloc: Global) -> Result<Command<'a>, AllocError> {
+    let file = Arg::new(alloc, "FILE")
+        .required(true)
+        .help("The file of a journal");
+    let commits = Arg::new(alloc, "commits")
+        .long("commits")
+        .action(ArgAction::SetTrue)
+        .help("Prints each commit, with the rows that it changed");
+    let follow = Arg::new(alloc, "follow")
+        .long("follow")
+        .action(ArgAction::SetTrue)
+        .help("Prints each commit, and goes on with those that come");
+    Command::new(alloc, "journal")
+        .about("Prints what a journal holds")
+        .after_help(AFTER_JOURNAL)
+        .arg(file)?
+        .arg(commits)?
+        .arg(follow)
 }
 
 fn check_command<'a>(alloc: Global) -> Result<Command<'a>, AllocError> {
@@ -170,6 +270,18 @@ fn postgresql_command<'a>(alloc: Global) -> Result<Command<'a>, AllocError> {
         .about("Prints definitions as SQL for PostgreSQL 15 or later")
         .after_help(AFTER_POSTGRESQL)
         .arg(defs)
+}
+
+fn sqlite_command<'a>(alloc: Global) -> Result<Command<'a>, AllocError> {
+    let defs = Arg::new(alloc, "DEFS")
+        .required(true)
+        .help("A file of definitions");
+    let journal = journal_arg(alloc, "The file of a journal whose rows are printed");
+    Command::new(alloc, "sqlite")
+        .about("Prints tables and rows, of a journal too, as SQL for SQLite 3")
+        .after_help(AFTER_SQLITE)
+        .arg(defs)?
+        .arg(journal)
 }
 
 /// The command with the words that name the two texts.

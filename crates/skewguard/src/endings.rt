@@ -5,9 +5,9 @@ ghost use Rattle.replay.specs.declared.faults.ProgramFault.TheVariants.{Output};
 
 use crate::files::{OUTSIDE, REFUSED, Streams, WELL, report_refused};
 use crate::texts::Texts;
-use checkup::{Colour, Which, picture_of_refusal};
+use checkup::{Colour, Which, draw_refused};
 use replay::ProgramFault;
-use std::alloc::Global;
+use std::alloc::{AllocError, Global};
 use std::io::Write;
 
 /// The status to end with. A fault is said in one line on the second stream, and on a terminal with a picture behind
@@ -20,31 +20,28 @@ pub fn end_run<W: Write, E: Write>(
 ) -> u8
     ensures { result ≤ 3 }
 {
-    let drawn = if streams.err_is_terminal {
-        picture_of(alloc, &run, texts)
-    } else {
-        String::new(alloc)
-    };
+    let mut drawn = String::new(alloc);
+    if streams.err_is_terminal && draw_fault(alloc, &run, texts, &mut drawn).is_err() {
+        drawn.clear();
+    }
     let status = end_with_status(run, streams.out, streams.err);
     let _ = streams.err.write_all(drawn.as_bytes());
     status
 }
 
-/// The picture of the fault for which a text was refused; empty where none was, or where there is no memory for it.
-fn picture_of(alloc: Global, run: &Result<(), ProgramFault>, texts: &Texts<'_>) -> String {
-    let drawn = match (run, texts.script()) {
-        (Err(ProgramFault::Defs(refusal)), _) => {
-            picture_of_refusal(alloc, Which::Defs, texts.defs(), refusal, Colour::Terminal)
-        }
-        (Err(ProgramFault::Script(refusal)), Some(script)) => {
-            picture_of_refusal(alloc, Which::Script, script, refusal, Colour::Terminal)
-        }
-        _ => Ok(String::new(alloc)),
+/// Draws the fault for which a text was refused; nothing where none was.
+fn draw_fault(
+    alloc: Global,
+    run: &Result<(), ProgramFault>,
+    texts: &Texts<'_>,
+    drawn: &mut String,
+) -> Result<(), AllocError> {
+    let (which, text, refusal) = match (run, texts.script()) {
+        (Err(ProgramFault::Defs(refusal)), _) => (Which::Defs, texts.defs(), refusal),
+        (Err(ProgramFault::Script(refusal)), Some(script)) => (Which::Script, script, refusal),
+        _ => return Ok(()),
     };
-    match drawn {
-        Ok(drawn) => drawn,
-        Err(_) => String::new(alloc),
-    }
+    draw_refused(alloc, which, text, refusal, Colour::Terminal, drawn)
 }
 
 /// The status to end with. A fault is said in one line on `err`; one of the writer is not, nor a session without a

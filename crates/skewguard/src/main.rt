@@ -15,26 +15,32 @@
 //! the closing part are the same for both (`replay`).
 //!
 //! `skewguard shell` answers events from standard input, each at once; what it promises of a pipe, from bytes to bytes,
-//! stands at `shell::shell_into`. On a terminal it talks (`shell::converse_into`).
+//! stands at `shell::shell_into`. On a terminal it talks (`shell::converse_into`). With a journal it answers each
+//! COMMIT once it is on the disk (`ledgers`, over `durable` and `journal_file`).
 //!
 //! `skewguard check` runs nothing. It shows what the definitions define and what their assertions cost, and of each
 //! text its first fault, with its line and what may stand there (`checkup`).
 //!
 //! `skewguard explain` says why events of a script are answered so, `skewguard picture` draws its transactions and
-//! their conflicts (`history`, `explain`, `picture`), and `skewguard postgresql` prints the definitions as SQL for
-//! another engine (`postgresql`).
+//! their conflicts (`history`, `explain`, `picture`), `skewguard postgresql` prints the definitions as SQL for another
+//! engine (`postgresql`), and `skewguard sqlite` the rows, of a journal too, for one that only asks (`sqlite_text`).
 //!
 //! The module `program` is the command line: which subcommand is meant, and the status to end with. `commands` has the
-//! words that are taken; `runs`, `shells`, `checks`, `explanations` and `translations` what they do; `files` and
-//! `texts` what is read, `signs` the line that shows on a terminal that long work goes on, and `endings` what is said
-//! of a run that failed. A further subcommand is a function in `commands` and a line in `program::run_named`.
+//! words that are taken; `runs`, `shells`, `checks`, `explanations`, `translations` and `dumps` what they do; `files`
+//! and `texts` what is read, `signs` the line that shows on a terminal that long work goes on, and `endings` what is
+//! said of a run that failed. A further subcommand is a function in `commands` and a line in `program::run_named`.
 #![tactic(auto)]
 
 mod checks;
 mod commands;
+mod dumps;
 mod endings;
 mod explanations;
 mod files;
+mod follows;
+mod held;
+mod journals;
+mod ledgers;
 mod program;
 mod runs;
 mod shells;

@@ -5,13 +5,17 @@ ghost use denote.Param.Send.{IsSync};
 
 use crate::checks::check;
 use crate::commands::make_command;
+use crate::dumps::dump;
 use crate::explanations::{draw, explain};
 use crate::files::{OUTSIDE, Streams, USAGE, WELL, report_no_memory, report_unread_words};
+use crate::journals::show;
+use crate::ledgers::checkpoint;
 use crate::runs::{Way, run};
 use crate::shells::serve;
 use crate::signs::Task;
 use crate::translations::translate;
 use clap::ArgMatches;
+use std::fs::File;
 use std::io::{Input, Write};
 use std::rt::{Env, Files};
 use std::sync::Wait;
@@ -22,10 +26,19 @@ use std::{env, thread};
 /// Does what the words of the command line ask for, and gives the status to end with.
 pub fn command_line<R, W, E>(rt: &R, streams: &mut Streams<'_, W, E>) -> u8
 where
-    R: Env + Files + Input + Print + Eprint + AllocGlobal + Clock + Threads + Wait + Sync,
+    R: Env
+        + Files<File = File>
+        + Input
+        + Print
+        + Eprint
+        + AllocGlobal
+        + Clock
+        + Threads
+        + Wait
+        + Sync,
     W: Write,
     E: Write,
-    ensures { result ≤ 3 }
+    ensures { result ≤ 4 }
 {
     let alloc = rt.alloc();
     let words: Vec<String> = match env::args(rt) {
@@ -53,10 +66,10 @@ where
 /// Runs the subcommand that the words name, beside a sign of life where the second stream is a terminal.
 fn run_matches<R, W, E>(rt: &R, matches: &ArgMatches<'_>, streams: &mut Streams<'_, W, E>) -> u8
 where
-    R: Files + Input + Eprint + AllocGlobal + Clock + Threads + Wait + Sync,
+    R: Files<File = File> + Input + Eprint + AllocGlobal + Clock + Threads + Wait + Sync,
     W: Write,
     E: Write,
-    ensures { result ≤ 3 }
+    ensures { result ≤ 4 }
 {
     let Some((name, words)) = matches.subcommand() else {
         return USAGE;
@@ -76,10 +89,10 @@ fn run_in_sight<R, W, E>(
     streams: &mut Streams<'_, W, E>,
 ) -> u8
 where
-    R: Files + Input + Eprint + AllocGlobal + Clock + Threads + Wait + Sync,
+    R: Files<File = File> + Input + Eprint + AllocGlobal + Clock + Threads + Wait + Sync,
     W: Write,
     E: Write,
-    ensures { result ≤ 3 }
+    ensures { result ≤ 4 }
 {
     let (sign, task) = (streams.sign, task_of(name));
     thread::scope(
@@ -87,7 +100,7 @@ where
         rt,
         |scope| -> u8
             requires runtime { IsSync R.row }
-            ensures { result ≤ 3 }
+            ensures { result ≤ 4 }
         {
             let _ = scope.spawn(move || sign.show(rt, task));
             let status = run_named(rt, name, words, streams);
@@ -108,7 +121,7 @@ fn task_of(name: &str) -> Task {
             before: "loading",
             after: "answering",
         },
-        "check" | "postgresql" => Task {
+        "check" | "checkpoint" | "postgresql" | "sqlite" => Task {
             before: "loading",
             after: "printing",
         },
@@ -127,19 +140,22 @@ fn run_named<R, W, E>(
     streams: &mut Streams<'_, W, E>,
 ) -> u8
 where
-    R: Files + Input + AllocGlobal + Threads + Wait + Sync,
+    R: Files<File = File> + Input + AllocGlobal + Clock + Threads + Wait + Sync,
     W: Write,
     E: Write,
-    ensures { result ≤ 3 }
+    ensures { result ≤ 4 }
 {
     match name {
         "replay" => run(rt, Way::InOrder, words, streams),
         "threads" => run(rt, Way::OnThreads, words, streams),
         "shell" => serve(rt, words, streams),
+        "checkpoint" => checkpoint(rt, words, streams),
+        "journal" => show(rt, words, streams),
         "check" => check(rt, words, streams),
         "explain" => explain(rt, words, streams),
         "picture" => draw(rt, words, streams),
         "postgresql" => translate(rt, words, streams),
+        "sqlite" => dump(rt, words, streams),
         _ => USAGE,
     }
 }

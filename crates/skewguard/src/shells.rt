@@ -4,20 +4,22 @@ ghost use Rattle.std.specs.Prelude.{◌≤◌};
 
 use crate::endings::end_run;
 use crate::files::{OUTSIDE, Streams, USAGE, WELL, report_no_memory};
+use crate::ledgers::{OnJournal, serve_on_journal};
 use crate::texts::{Texts, limit_of, read_texts};
 use clap::ArgMatches;
 use shell::{ShellFault, converse_into, shell_into};
 use std::alloc::Global;
+use std::fs::File;
 use std::io::{BufReader, BufWriter, Input, Write};
 use std::rt::Files;
 
 /// Answers what comes on standard input, on the definitions that the words name.
 pub fn serve<R, W, E>(rt: &R, words: &ArgMatches<'_>, streams: &mut Streams<'_, W, E>) -> u8
 where
-    R: Files + Input + AllocGlobal,
+    R: Files<File = File> + Input + AllocGlobal,
     W: Write,
     E: Write,
-    ensures { result ≤ 3 }
+    ensures { result ≤ 4 }
 {
     let Some(limit) = limit_of(words) else {
         return USAGE;
@@ -26,7 +28,29 @@ where
         Ok(texts) => texts,
         Err(status) => return status,
     };
-    serve_on(rt, &texts, limit, words.get_flag("report"), streams)
+    let with_report = words.get_flag("report");
+    match words.get_str("journal") {
+        Some(path) => {
+            let on_journal = OnJournal {
+                defs: texts.defs().bytes,
+                path,
+                limit,
+                with_report,
+                sync_every: number_of(words, "sync-every"),
+                checkpoint_bytes: number_of(words, "checkpoint-bytes"),
+            };
+            serve_on_journal(rt, &texts, on_journal, streams)
+        }
+        None => serve_on(rt, &texts, limit, with_report, streams),
+    }
+}
+
+/// The number of an option that has one when it is not named.
+fn number_of(words: &ArgMatches<'_>, option: &str) -> u64 {
+    match words.get_one::<u32>(option) {
+        Some(number) => u64::from(number),
+        None => 1,
+    }
 }
 
 /// Talks to a person where both ends are a terminal. Else the answers alone are written.
@@ -64,7 +88,7 @@ where
 }
 
 /// The status to end with. What can't be read is said in one line on the second stream.
-fn end_shell<W: Write, E: Write>(
+pub fn end_shell<W: Write, E: Write>(
     alloc: Global,
     served: Result<(), ShellFault>,
     texts: &Texts<'_>,

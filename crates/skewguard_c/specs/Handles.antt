@@ -6,7 +6,7 @@ use denote.RawPtr.{Ptr}
 use Rattle.std.specs.declared.alloc.Global.{Global}
 use Rattle.std.specs.contracts.impls.GlobalAllocator.TheImpl.{ghosts}
 use Rattle.std.specs.Box.Ownership.{box_owns}
-use Rattle.calls.specs.States.{LibraryState, IsOpened}
+use Rattle.calls.specs.States.{LibraryState, IsOpened, IsOpenedOn}
 use Rattle.calls.specs.contracts.libraries.Library.{the_row}
 
 -- the library at p, in the state s, and the right to free its block
@@ -26,7 +26,15 @@ abbrev pub made_to : {old new : Ptr} {status : ℤ} → Fml → IsMade old new s
 made_to made (inl _) = made
 made_to made (inr _) = ftrue
 
--- status 0, and at new a handle of what the request opens; or status 2, and nothing was made
+-- status 0, and at new a handle in a state of which Is is true; or status 2, and nothing was made
+abbrev pub outcome_where : Global → (LibraryState → Type 0) → Ptr → Ptr → ℤ → Fml
+outcome_where alloc Is old new status = fex (IsMade old new status) (made_to (handle_where alloc new Is))
+
+-- the same of what a request opens
 abbrev pub outcome_of_open : Global → (request : List ℕ) → Ptr → Ptr → ℤ → Fml
-outcome_of_open alloc request old new status =
-    fex (IsMade old new status) (made_to (handle_where alloc new (IsOpened request)))
+outcome_of_open alloc request old new status = outcome_where alloc (IsOpened request) old new status
+
+-- and of what it opens on the journal in a file
+abbrev pub outcome_of_open_journal : Global → (request file : List ℕ) → Ptr → Ptr → ℤ → Fml
+outcome_of_open_journal alloc request file old new status =
+    outcome_where alloc (IsOpenedOn request file) old new status

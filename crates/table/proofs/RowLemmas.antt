@@ -9,6 +9,7 @@ use Rattle.value.specs.declared.values.Value.TheVariants.{Null, Int, Text}
 use Rattle.value.specs.declared.values.ColType.{ColType}
 use Rattle.value.specs.declared.values.ColType.TheVariants.{Integer, Varchar}
 use Rattle.value.specs.declared.refusals.Refusal.{Refusal}
+use Rattle.value.specs.Texts.{character_count}
 use Rattle.table.specs.declared.schemas.Column.{Column}
 use Rattle.table.specs.Rows.{RowValues, FitsText, FitsColumn, FitsColumns}
 use Rattle.table.specs.Faults.{is_typed, are_typed, text_fault, fault_in, row_fault}
@@ -35,7 +36,7 @@ le_from m n h = grind (arith, nat_tests)
 
 text_fits : (name : List ℕ) (kind : ColType) (bytes : List ℕ) → is_typed kind (Text bytes) ≡ true → text_fault name kind bytes ≡ None → FitsText kind bytes
 text_fits name Integer bytes t h = cc
-text_fits name (Varchar most) bytes t h = (le_from (length bytes) most (no_fault (nat_le (length bytes) most) _ h), t)
+text_fits name (Varchar most) bytes t h = (le_from (character_count bytes) most (no_fault (nat_le (character_count bytes) most) _ h), t)
 
 -- a value of the column's type, without fault, fits the column
 value_fits : (c : Column) (v : Value) → is_typed c.kind v ≡ true → fault_in c v ≡ None → FitsColumn c v

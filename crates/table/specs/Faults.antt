@@ -1,5 +1,5 @@
 -- What is wrong with the values of an INSERT, in the order in which it is answered.
-use Rattle.std.specs.Prelude.{ℕ, ◌^◌, Bool, true, false, ◌&&◌, nat_le, List, [], ◌∷◌, length, Option, Some, None, unsigned_abs, if◌then◌else◌}
+use Rattle.std.specs.Prelude.{ℕ, ◌^◌, Bool, true, false, ◌&&◌, nat_le, List, [], ◌∷◌, Option, Some, None, unsigned_abs, if◌then◌else◌}
 use Rattle.std.specs.Option.{option_or}
 use Rattle.value.specs.declared.values.Value.{Value}
 use Rattle.value.specs.declared.values.Value.TheVariants.{Null, Int, Text}
@@ -8,11 +8,11 @@ use Rattle.value.specs.declared.values.ColType.TheVariants.{Integer, Varchar}
 use Rattle.value.specs.declared.refusals.Excess.TheVariants as excess
 use Rattle.value.specs.declared.refusals.Refusal.{Refusal}
 use Rattle.value.specs.declared.refusals.Refusal.TheVariants.{TypeMismatch, NullNotAllowed, OutOfRange}
-use Rattle.value.specs.Texts.{is_plain}
+use Rattle.value.specs.Texts.{is_plain, character_count}
 use Rattle.table.specs.declared.schemas.Column.{Column}
 use Rattle.table.specs.Rows.{RowValues}
 
--- whether a value is of a type: NULL is of each, a text with a byte that no text has of none
+-- whether a value is of a type: NULL is of each, a text that is not plain of none
 abbrev pub is_typed : ColType → Value → Bool
 is_typed kind Null = true
 is_typed Integer (Int n) = true
@@ -27,10 +27,10 @@ are_typed [] (v ∷ vs) = false
 are_typed (c ∷ cs) [] = false
 are_typed (c ∷ cs) (v ∷ vs) = is_typed c.kind v && are_typed cs vs
 
--- what is wrong with a text in a column of a type: that it is too long
+-- what is wrong with a text in a column of a type: that it has too many characters
 abbrev pub text_fault : List ℕ → ColType → List ℕ → Option Refusal
 text_fault name Integer bytes = None
-text_fault name (Varchar most) bytes = if nat_le (length bytes) most then None else Some (OutOfRange name excess.Text)
+text_fault name (Varchar most) bytes = if nat_le (character_count bytes) most then None else Some (OutOfRange name excess.Text)
 
 -- what is wrong with a value in a column: NULL where it takes none, or out of its range
 abbrev pub fault_in : Column → Value → Option Refusal

@@ -8,7 +8,7 @@ use Rattle.value.specs.declared.values.ColType.{ColType}
 use Rattle.value.specs.declared.values.ColType.TheVariants.{Integer, Varchar}
 use Rattle.value.specs.ValueOrder.{value_cmp}
 use Rattle.value.specs.Ordered as ordered
-use Rattle.value.specs.Texts.{IsPlain}
+use Rattle.value.specs.Texts.{IsPlain, character_count}
 use Rattle.table.specs.declared.schemas.Column.{Column}
 
 -- a row is its values, by column
@@ -20,10 +20,10 @@ pub record Layout : Type 0 where
   pub columns : List Column
   pub key : ℕ
 
--- a text may stand in a column of this type
+-- a text may stand in a column of this type: it has no more characters than the column takes
 abbrev pub FitsText : ColType → List ℕ → Type 0
 FitsText Integer bytes = ⊥
-FitsText (Varchar most) bytes = (length bytes ≤ most) × IsPlain bytes
+FitsText (Varchar most) bytes = (character_count bytes ≤ most) × IsPlain bytes
 
 -- a value may stand in a column: NULL where it takes it, else one of its type and size
 abbrev pub FitsColumn : Column → Value → Type 0

@@ -6,7 +6,8 @@
 //! bag of rows).
 //!
 //! What a column can hold is narrower here than in the standard, so that sums stay exact (this project's choice):
-//! INTEGER the whole numbers from -10^15 to 10^15, and VARCHAR(n) at most n bytes from 0x20 to 0x7E.
+//! INTEGER the whole numbers from -10^15 to 10^15, and VARCHAR(n) texts of at most n characters, which are any but
+//! the control characters of ASCII.
 //!
 //! `Schema::admits` tests the values of an INSERT in the order in which their faults are answered: first the number
 //! and the types of the values, and then column by column whether NULL may stand there and whether the value is in

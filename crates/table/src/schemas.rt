@@ -24,8 +24,8 @@ pub struct Column {
 }
 
 impl Column {
-    /// Whether a value is of the column's type. NULL is of every type, and a text with a byte outside 0x20 to 0x7E of
-    /// none.
+    /// Whether a value is of the column's type. NULL is of every type, and a text of none that is ill-formed UTF-8 or
+    /// has a control character of ASCII.
     pub fn is_typed(&self, value: &Value) -> bool
         ensures { result ≡ is_typed self.now.kind value.now }
     {
@@ -37,7 +37,7 @@ impl Column {
     }
 
     /// What is wrong with a value of the column's type: NULL where the column takes none, a number beyond the range,
-    /// or a text longer than the column.
+    /// or a text of more characters than the column takes.
     pub fn fault(&self, value: &Value) -> Result<Option<Refusal>, AllocError>
         ensures fault { IfOk result (λ fault. fault ≡ fault_in self.now value.now) }
         ensures none { IsNone (fault_in self.now value.now) → IsOk result }
@@ -47,7 +47,7 @@ impl Column {
             (_, Value::Int(number)) if number.unsigned_abs() > LARGEST => self.excess(
                 Excess::Number,
             ),
-            (ColType::Varchar(most), Value::Text(text)) if text.len() > most as usize =>
+            (ColType::Varchar(most), Value::Text(text)) if text.character_count() > most as usize =>
                 self.excess(Excess::Text),
             (_, Value::Int(_) | Value::Text(_)) => Ok(None),
         }
@@ -137,8 +137,8 @@ impl Schema {
         self.columns.iter().position(|column| *name == column.name)
     }
 
-    /// Whether there is a value for each column, each of its type. NULL is of every type, and a text with a byte
-    /// outside 0x20 to 0x7E of none.
+    /// Whether there is a value for each column, each of its type. NULL is of every type, and a text of none that is
+    /// ill-formed UTF-8 or has a control character of ASCII.
     pub fn is_typed(&self, row: &Row) -> bool
         ensures { result ≡ are_typed self.now.columns row.now }
     {
@@ -146,8 +146,8 @@ impl Schema {
     }
 
     /// Tests the values of an INSERT in their order. TypeMismatch where the number of values differs or one is not of
-    /// its column's type (nor is a text with a byte outside 0x20 to 0x7E); then by columns NullNotAllowed and
-    /// OutOfRange. NoMemory only where the name of the column in fault was not to be copied.
+    /// its column's type (nor is a text that is ill-formed or has a control character); then by columns NullNotAllowed
+    /// and OutOfRange. NoMemory only where the name of the column in fault was not to be copied.
     pub fn admits(&self, row: &Row) -> Result<(), Refusal>
         ensures fits { OnOk result (FitsColumns self.now.columns row.now) }
         ensures wide { OnOk result (length row.now ≡ length self.now.columns) }

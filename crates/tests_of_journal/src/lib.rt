@@ -6,4 +6,8 @@
 #[cfg(test)]
 mod files;
 #[cfg(test)]
+mod headers;
+#[cfg(test)]
 mod lines;
+#[cfg(test)]
+mod real_files;

@@ -14,6 +14,8 @@ mod commit_tests;
 #[cfg(test)]
 mod cond_tests;
 #[cfg(test)]
+mod durable_tests;
+#[cfg(test)]
 mod epoch_tests;
 #[cfg(test)]
 mod pages_tests;

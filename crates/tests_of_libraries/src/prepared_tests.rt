@@ -544,7 +544,7 @@ fn faults(rt: HostRuntime) -> Result<(), Fail> {
     same(
         &rt,
         &filled(alloc, text, &bytes)?,
-        "parameter 1 is a text with a byte that no text may have",
+        "parameter 1 is a text that is no UTF-8, or has a control character",
     );
     Ok(())
 }

@@ -1,5 +1,5 @@
 //! What prints beside a run, for a writer that fails and where nothing is printed: `skewguard check`, `explain`,
-//! `picture` and `postgresql`.
+//! `picture`, `postgresql` and `sqlite`.
 
 use checkup::{CheckFault, Colour, NamedText, Style, check_into};
 use commit::admit;
@@ -129,6 +129,35 @@ fn names_too_long_for_postgresql(rt: HostRuntime) -> Result<(), Fail> {
     let printed = print_into(alloc, &view, &mut out);
     drop(view);
     assert!(&rt; matches!(printed, Err(PrintFault::LongName { .. })));
+    assert!(&rt; out.is_empty());
+    Ok(())
+}
+
+/// What is printed of few rows is one write, and then it is flushed.
+#[test]
+fn rows_for_a_writer_that_fails(rt: HostRuntime) -> Result<(), Fail> {
+    let alloc = rt.alloc();
+    let view = view_of(alloc, DEFS)?;
+    for calls in 0..2 {
+        let mut out = Brittle { left: calls };
+        let printed = sqlite_text::print_into(alloc, &view, Some(2), &mut out);
+        assert!(&rt;
+            matches!(printed, Err(sqlite_text::PrintFault::Output)),
+            "{calls}"
+        );
+    }
+    Ok(())
+}
+
+/// Nothing is written of a table whose name SQLite keeps for itself.
+#[test]
+fn names_of_sqlite(rt: HostRuntime) -> Result<(), Fail> {
+    let alloc = rt.alloc();
+    let view = view_of(alloc, "CREATE TABLE sqlite_t (ID INTEGER PRIMARY KEY);")?;
+    let mut out = Vec::new(alloc);
+    let printed = sqlite_text::print_into(alloc, &view, None, &mut out);
+    drop(view);
+    assert!(&rt; matches!(printed, Err(sqlite_text::PrintFault::ReservedName { .. })));
     assert!(&rt; out.is_empty());
     Ok(())
 }

@@ -8,13 +8,14 @@
 //!   the limit of 128 bytes, SQL-92's limit of an identifier, are this project's choice.)
 //! - a number: the longest run of digits, at most 10^15 (this project's choice). A number directly
 //!   followed by a letter is two tokens.
-//! - a text: printable bytes in single quotes, each quote inside written twice.
+//! - a text: well-formed UTF-8 (Unicode, D92) in single quotes, each quote inside written twice, without the control
+//!   characters 0x00 to 0x1F and 0x7F (this project's choice; SQL-92 leaves its characters open).
 //! - a mark: one of fifteen, the longest first, so `<>` is one token and `> <` two.
 //!
 //! Four bytes separate tokens (space, tab, line feed, carriage return), and so does a comment, from
 //! `--` up to the end of its line. Where something stands with which no token begins, or a token
-//! breaks its limit, a bad token stands, where it begins: a text without its end at its opening
-//! quote, a word of 129 bytes at its first letter.
+//! breaks its limit, a bad token stands, where it begins: a text without its end, or with bytes that no text has, at
+//! its opening quote, a word of 129 bytes at its first letter.
 //!
 //! The rules stand twice. `specs/Rules.antt` has them as one would read them out: which spellings
 //! are tokens, by longest runs, with no step of a program. `specs/Lexer.antt` has them as a function

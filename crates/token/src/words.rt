@@ -1,10 +1,9 @@
 //! Words, numbers and texts, at the front of a text.
 
-ghost use Rattle.std.specs.Prelude.{◌≡◌, ◌≤◌, ◌==◌, false, length, map, IfSome};
+ghost use Rattle.std.specs.Prelude.{◌≡◌, ◌≤◌, ◌==◌, false, length, map, Some, IfSome};
 ghost use Rattle.std.specs.Str.{bytes_eq};
 ghost use Rattle.std.specs.Char.{to_ascii_uppercase};
 ghost use Rattle.std.specs.List.{prefix_len, list_all, zip};
-ghost use Rattle.value.specs.Texts.{is_plain_byte};
 ghost use Rattle.token.specs.Bytes as byte;
 ghost use Rattle.token.specs.Spellings as spelling;
 ghost use Rattle.token.specs.Lexer as spec;
@@ -13,6 +12,7 @@ use crate::kinds::{
     Kind, WORDS_OF_2, WORDS_OF_3, WORDS_OF_4, WORDS_OF_5, WORDS_OF_6, WORDS_OF_7, WORDS_OF_8,
     WORDS_OF_9, WORDS_OF_10, WORDS_OF_11,
 };
+use value::{is_plain_byte, is_utf8};
 
 /// SQL-92's limit of an identifier.
 const MOST_WORD_BYTES: usize = 128;
@@ -153,10 +153,12 @@ fn find_closing(text: &[u8]) -> Option<usize>
     if closed { Some(text.len()) } else { None }
 }
 
-fn is_plain_byte(b: u8) -> bool
-    ensures { result ≡ is_plain_byte b }
+/// So many bytes at the front, if they are well-formed UTF-8.
+fn len_if_utf8(text: &[u8], len: usize) -> Option<usize>
+    requires { len ≤ length text.now }
+    ensures { result ≡ spec.if_utf8 text.now (Some len) }
 {
-    b' ' <= b && b <= b'~'
+    is_utf8(&text[..len]).then_some(len)
 }
 
 /// The text in quotes at the front, which begins with a quote.
@@ -164,7 +166,8 @@ pub fn read_text(text: &[u8]) -> Option<Front>
     requires { 1 ≤ length text.now }
     ensures { result ≡ spec.quotation text.now }
 {
-    let len = find_closing(&text[1..])?;
+    let behind = &text[1..];
+    let len = len_if_utf8(behind, find_closing(behind)?)?;
     Some(Front {
         kind: Kind::Text,
         len: len + 1,

@@ -7,9 +7,9 @@
 //! - *What does a comparison of SQL know of them?* `compare` answers nothing where a side is NULL, since a
 //!   comparison with NULL is unknown; a `Comparison` such as `<=` then says for which answers it holds.
 //! - *Where do they stand in a list?* `order` is a total order, in which NULL stands first, then the numbers,
-//!   then the texts byte by byte, a beginning before the longer text (this project's choice, with no padding
-//!   and no collation). Keys, groups and roots are kept in it, and NULL is there a value like another, as
-//!   GROUP BY wants it.
+//!   then the texts byte by byte, which is by the numbers of their characters, a beginning before the longer text
+//!   (this project's choice, with no padding and no collation). Keys, groups and roots are kept in it, and NULL is
+//!   there a value like another, as GROUP BY wants it.
 //!
 //! A condition is true, false or unknown (ISO/IEC 9075:1992, search condition), and a [`Truth`] is one of the three.
 //! Unknown comes from NULL: a comparison with a missing value is neither true nor false. The standard gives AND, OR
@@ -35,8 +35,8 @@
 //! truth table as the standard has it, and a copy is equal to its original or memory ran out.
 //!
 //! The definitions are in `specs/`: `ValueOrder` (the orders by cases), `Comparisons` (the comparisons of SQL),
-//! `Truths` (the truth tables), `Texts` (the bytes that texts are made of) and `Ordered` (lists in the order of a key:
-//! what stands at a key, the list after a change at a key, the least). Their laws are in `proofs/ValueOrders` and
+//! `Truths` (the truth tables), `Texts` (the characters that texts are made of) and `Ordered` (lists in the order of a
+//! key: what stands at a key, the list after a change at a key, the least). Their laws are in `proofs/ValueOrders` and
 //! `proofs/OrderedLists`, for any list that a layer above keeps in order.
 #![tactic(auto)]
 
@@ -50,6 +50,6 @@ mod values;
 pub use comparisons::{Comparison, compare};
 pub use copied::Copied;
 pub use refusals::{Excess, Party, Refusal};
-pub use texts::Text;
+pub use texts::{Text, ascii_goes_by_bytes, is_plain_byte, is_utf8};
 pub use truths::Truth;
 pub use values::{ColType, Root, Value, order, order_roots};

@@ -39,19 +39,14 @@ impl fmt::Display for Value {
             Value::Int(number) => write!(f, "{number}"),
             Value::Text(text) => {
                 write!(f, "'")?;
-                for byte in text.as_bytes() {
-                    if *byte == b'\'' {
-                        write!(f, "'")?;
-                    }
-                    write!(f, "{}", char::from(*byte))?;
-                }
+                text.write_into(f, "''")?;
                 write!(f, "'")
             }
         }
     }
 }
 
-/// The type of a column: INTEGER, or VARCHAR with the most bytes that a text has there.
+/// The type of a column: INTEGER, or VARCHAR with the most characters that a text has there.
 #[derive(Clone, Copy, Debug, PartialEq, Eq)]
 pub enum ColType {
     Integer,

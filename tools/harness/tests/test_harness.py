@@ -6,7 +6,7 @@ import sys
 import tempfile
 import unittest
 
-from harness import crates, loads, measures, programs, refusing, reports, texts
+from harness import crates, journals, loads, measures, programs, refusing, reports, texts
 
 # Answers with what it is given: its words, its files, its standard input.
 ECHO = """
@@ -163,6 +163,34 @@ class Crates(unittest.TestCase):
         self.assertIn("table", edges["assertion"])
         self.assertEqual(sum(len(of_group) for _, of_group in crates.groups()), len(edges))
         self.assertTrue(all((programs.TOP / "crates" / crate / "src").is_dir() for crate in edges))
+
+
+class Journals(unittest.TestCase):
+    """On the header and the two lines of docs/JOURNAL.md."""
+
+    HEADER = b"skewguard journal 1\t7\t16697876759621788180\t3719024853352176233\t\n"
+    FIRST = b"\n1\t0\t1\t0\t'BOB\t3\t'BOB\t9\t1\t3\t'BOB\t9\t0\t17437670071814014402\t\n"
+    SECOND = b"\n2\t1\t2\t0\t'CAROL\t3\t'CAROL\t9\t1\t0\t0\t'DAN\t0\t3\t'DAN\tN\t-5\t10053107342939392658\t\n"
+
+    def test_lines(self):
+        file = self.HEADER + self.FIRST + self.SECOND
+        middle = len(self.HEADER + self.FIRST)
+        both = [(len(self.HEADER), middle, 1), (middle, len(file), 2)]
+        self.assertEqual(journals.lines_of(file + bytes(5)), both)
+        self.assertEqual(journals.lines_of(file), both)
+        self.assertEqual(journals.lines_of(file[:-1] + bytes(5) + self.SECOND), both[:1])
+        self.assertEqual(journals.lines_of(self.HEADER + bytes(5)), [])
+
+    def test_sums(self):
+        self.assertEqual(journals.sum_of(self.FIRST.strip(b"\n")[:-21]), 17437670071814014402)
+        self.assertEqual(journals.with_durable(self.SECOND, 1), self.SECOND)
+        self.assertEqual(journals.with_durable(self.SECOND, 0)[:8], b"\n2\t0\t2\t0")
+
+    def test_what_is_said(self):
+        fault = "error: the journal a b is damaged at byte 70: commit 3 is missing\n"
+        self.assertEqual(journals.refused(programs.Answer(4, "", fault)), (None, 3, 70))
+        self.assertIsNone(journals.refused(programs.Answer(1, "", fault)))
+        self.assertIsNone(journals.refused(programs.Answer(4, "", "error\n")))
 
 
 if __name__ == "__main__":

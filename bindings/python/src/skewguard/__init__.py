@@ -15,7 +15,8 @@
 
 An assertion is a rule over whole tables. No committed tables make one false, and the committed transactions have a
 serial order, whatever threads do. `Manager.run` runs a function's transaction again where others were in its way.
-`skewguard.dbapi` has the same by connections and cursors, as PEP 249 has them.
+With `journal` in `open` what is committed outlives the process, whatever
+becomes of it. `skewguard.dbapi` has the same by connections and cursors, as PEP 249 has them.
 """
 
 from ._backend import IMPLEMENTATION
@@ -28,6 +29,7 @@ from .errors import (
     Error,
     IntegrityError,
     InterfaceError,
+    JournalError,
     NoMemory,
     OperationalError,
     ParameterError,
@@ -52,6 +54,7 @@ __all__ = [
     "Error",
     "IntegrityError",
     "InterfaceError",
+    "JournalError",
     "Manager",
     "NoMemory",
     "OperationalError",

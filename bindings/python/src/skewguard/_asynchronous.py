@@ -6,9 +6,10 @@ The first `async with` imports it, since asyncio takes long to import.
 from __future__ import annotations
 
 import asyncio
-from typing import TYPE_CHECKING, Any, Callable, Iterable, Mapping, Optional, TypeVar, Union
+from typing import TYPE_CHECKING, Any, Callable, Iterable, List, Mapping, Optional, TypeVar, Union
 
 from ._layout import State
+from ._texts import Values
 from .errors import Value
 from .rows import Result
 
@@ -59,6 +60,10 @@ class AsyncTransaction:
     async def execute(self, sql: str, values: Union[Iterable[Value], Mapping[str, Value]] = ()) -> Result:
         """As Transaction.execute."""
         return await by_thread(self._transaction.execute, sql, values)
+
+    async def run_all(self, sql: str, rows: Iterable[Values]) -> List[Result]:
+        """As Transaction.run_all."""
+        return await by_thread(self._transaction.run_all, sql, rows)
 
     async def verdict(self, rule: str) -> Optional[bool]:
         """As Transaction.verdict."""

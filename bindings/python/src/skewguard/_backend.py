@@ -7,14 +7,15 @@ from typing import TYPE_CHECKING, Any, Callable, Type
 from . import _library, _refusals, rows
 from ._implementation import native
 from ._layout import parameter_bytes, text_bytes
-from ._texts import taken, unended
+from ._texts import taken
 
 if TYPE_CHECKING or native is None:
+    from . import _engine
     from ._engine import Engine, Transaction
 else:
     from ._native import Engine, Transaction
 
-__all__ = ["IMPLEMENTATION", "Engine", "Transaction", "find_library", "install"]
+__all__ = ["IMPLEMENTATION", "Engine", "Transaction", "draw", "find_library", "install"]
 
 IMPLEMENTATION = "ctypes" if native is None else "C"
 
@@ -32,13 +33,18 @@ def install(transaction: Type[Any], checked_retry: Callable[[int], int]) -> None
         parameter_bytes=parameter_bytes,
         text_bytes=text_bytes,
         taken=taken,
-        unended=unended,
         row_type=rows.row_type,
         tell=_refusals.tell,
         checked_retry=checked_retry,
         result=rows.Result,
         transaction=transaction,
     )
+
+
+def draw(request: bytes) -> str:
+    """What the library draws by a request; empty where it draws nothing."""
+    find_library()
+    return str(native.draw(request)) if native is not None else _engine.draw(request)
 
 
 def find_library() -> None:

@@ -16,7 +16,7 @@ import threading
 import warnings
 import weakref
 from collections import OrderedDict, deque
-from ctypes import POINTER, c_char_p, c_int32, c_size_t, c_uint32, c_void_p
+from ctypes import POINTER, c_char_p, c_int, c_int32, c_size_t, c_uint32, c_void_p
 from typing import (
     Any,
     Callable,
@@ -27,6 +27,7 @@ from typing import (
     Mapping,
     NamedTuple,
     Optional,
+    Sequence,
     Tuple,
     Type,
     TypeVar,
@@ -34,22 +35,11 @@ from typing import (
 )
 
 from . import _library
-from ._layout import (
-    COUNT,
-    LAYOUT,
-    Fault,
-    Kind,
-    Operation,
-    Reader,
-    State,
-    Status,
-    number_bytes,
-    parameter_bytes,
-    text_bytes,
-)
-from ._refusals import EPOCH_FULL, NO_TRANSACTION, SYNTAX, TOO_MANY_SESSIONS, error_of, tell
-from ._texts import taken, unended
-from .errors import Error, OperationalError, ReplyLost, Value
+from ._layout import COUNT, UNDONE, Fault, Reader, State, number_bytes, parameter_bytes, text_bytes
+from ._numbers import LAYOUT, Kind, Operation, Status
+from ._refusals import EPOCH_FULL, NO_TRANSACTION, TOO_MANY_SESSIONS, error_of, tell
+from ._texts import taken
+from .errors import Error, JournalError, OperationalError, ReplyLost, Value
 from .rows import Result, row_type
 
 # So many prepared statements are kept, those that were used last.
@@ -61,6 +51,9 @@ Trace = Callable[[str], Any]
 # A reply that there was no memory for is asked for so often.
 FETCHES = 3
 REPLY_WAITS = Status.REPLY_WAITS
+
+# The statuses of events whose line is told.
+TOLD = (Status.DONE, Status.REFUSED, Status.NOT_KEPT)
 
 # The length of a reply, while the library has not written any.
 UNANSWERED = 2**64 - 1
@@ -184,7 +177,27 @@ def _loaded_from(name: str) -> ctypes.CDLL:
     library.skewguard_library_call.restype = c_int32
     library.skewguard_library_close.argtypes = [c_void_p]
     library.skewguard_library_close.restype = None
+    library.skewguard_library_draw.argtypes = [c_char_p, c_size_t, c_void_p, c_size_t, POINTER(c_size_t)]
+    library.skewguard_library_draw.restype = c_int32
+    library.skewguard_journal_open.argtypes = [c_char_p, c_char_p, c_size_t, POINTER(c_void_p), POINTER(c_int)]
+    library.skewguard_journal_open.restype = c_int32
+    library.skewguard_journal_call.argtypes = library.skewguard_library_call.argtypes
+    library.skewguard_journal_call.restype = c_int32
+    library.skewguard_journal_close.argtypes = [c_void_p]
+    library.skewguard_journal_close.restype = None
     return library
+
+
+def draw(request: bytes) -> str:
+    """What the library draws by a request; empty where it draws nothing, or where there is no memory for it."""
+    library, length, room = _load(), c_size_t(), 2048
+    while True:
+        buffer = ctypes.create_string_buffer(room)
+        if library.skewguard_library_draw(request, len(request), buffer, room, ctypes.byref(length)):
+            return ""
+        if length.value <= room:
+            return buffer.raw[: length.value].decode("utf-8", "replace")
+        room = length.value
 
 
 def _close_library(close: Callable[[c_void_p], None], handle: c_void_p, process: int) -> None:
@@ -204,7 +217,7 @@ class Engine:
     transaction_type: Any
     checked_retry: Callable[[int], int]
 
-    def __init__(self, request: bytes, definitions: str, trace: Optional[Trace]) -> None:
+    def __init__(self, request: bytes, definitions: str, trace: Optional[Trace], path: Optional[bytes]) -> None:
         self._library = _load()
         self._lock = threading.RLock()
         self._trace = trace
@@ -220,12 +233,23 @@ class Engine:
         self._room = _room(4096)
         handle = c_void_p()
         self._handle: Optional[int] = None
+        library = self._library
+        is_journaled = path is not None
+        self._library_call = library.skewguard_journal_call if is_journaled else library.skewguard_library_call
         # At the end of the process nothing is freed: another thread may be in a call.
-        close = self._library.skewguard_library_close
+        close = library.skewguard_journal_close if is_journaled else library.skewguard_library_close
         self._finalizer = weakref.finalize(self, _close_library, close, handle, self._process)
         self._finalizer.atexit = False
-        if self._library.skewguard_library_open(request, len(request), ctypes.byref(handle)) != Status.DONE:
-            raise error_of(Status.NO_MEMORY, b"")
+        error = c_int()
+        if is_journaled:
+            status = library.skewguard_journal_open(
+                path, request, len(request), ctypes.byref(handle), ctypes.byref(error)
+            )
+        else:
+            status = library.skewguard_library_open(request, len(request), ctypes.byref(handle))
+        if status != Status.DONE:
+            is_of_file = status == Fault.IO_ERROR
+            raise error_of(status if is_of_file else Status.NO_MEMORY, b"\0" + number_bytes(error.value))
         self._handle = handle.value
         try:
             self._serve(self._check_layout, definitions)
@@ -323,7 +347,7 @@ class Engine:
     def _answered(self, operation: int, request: bytes) -> Tuple[int, bytes]:
         """The status of a call and a copy of its reply."""
         buffer, address, room = self._room
-        call = self._library.skewguard_library_call
+        call = self._library_call
         status = call(self._handle, operation, request, len(request), address, room, self._length_at)
         length = self._length.value
         if length > room or status == REPLY_WAITS:
@@ -332,7 +356,7 @@ class Engine:
 
     def _fetched(self, operation: int, length: int) -> Tuple[int, bytes]:
         """The status and a copy of a reply that has not come yet; REPLY_WAITS where there is no memory for it."""
-        call = self._library.skewguard_library_call
+        call = self._library_call
         for _ in range(FETCHES):
             try:
                 if length > self._room.length:
@@ -356,17 +380,18 @@ class Engine:
     def _event(self, operation: int, request: bytes, text: Optional[str] = None) -> bytes:
         """The reply to an event, of which the trace is told, also where it was refused."""
         status, reply = self._answered(operation, request)
-        if self._trace is not None and status <= Status.REFUSED:
+        if self._trace is not None and status in TOLD:
             self._tell(self._trace)
         if status:
-            raise error_of(status, reply, text)
+            raise error_of(status, reply, text, self)
         return reply
 
     def _tell(self, trace: Trace) -> None:
         """Hands the line of the last answer on. Without memory it is lacking: the event has been."""
         _, reply = self._answered(Operation.LINE, b"")  # its status is the event's own
-        if reply[:1] == bytes([Kind.TEXT]):
-            tell(trace, Reader(reply).text())
+        for line in Reader(reply).replies() if reply[:1] == bytes([Kind.SEVERAL]) else [reply]:
+            if line[:1] == bytes([Kind.TEXT]):
+                tell(trace, Reader(line).text())
 
     # -- what the library makes, and has to be noted; the lock is held
 
@@ -383,7 +408,7 @@ class Engine:
             note(what, reply)
         self._unnoted = None
         if status:
-            raise error_of(status, reply, text)
+            raise error_of(status, reply, text, self)
 
     def _settle(self) -> None:
         """Brings to an end what was cut short, or forgotten."""
@@ -567,6 +592,80 @@ class Engine:
         self._note(seat, reply)
         return reply
 
+    def _run_all_in_seat(self, seat: Seat, text: str, rows: List[Sequence[Any]]) -> List[Result]:
+        """The answers to a statement with lists of values, up to the first that is not done, which raises."""
+        return self._serve(self._run_all, seat, text, rows)
+
+    def _run_all(self, seat: Seat, text: str, rows: List[Sequence[Any]]) -> List[Result]:
+        session = self._session_of(seat)
+        steps, fault = self._steps((text, values) for values in rows)
+        request = session.number + number_bytes(len(steps)) + b"".join(steps)
+        try:
+            status, replies = self._several(Operation.RUN_ALL, request)
+            for reply in replies:
+                self._note_one(seat, reply)
+        except ReplyLost:
+            self._put_seat_aside(seat, State.LOST)
+            raise
+        results = [self._done(status, reply, text, place) for place, reply in enumerate(replies)]
+        if fault is not None:
+            raise fault
+        return results
+
+    def _note_one(self, seat: Seat, reply: bytes) -> None:
+        """Notes by one of several replies whether a seat's transaction has ended, if it had not before."""
+        if seat.state != State.OPEN:
+            return
+        if reply[0] == Kind.REFUSAL:
+            self._note_refusal(seat, error_of(Status.REFUSED, reply))
+        else:
+            self._note(seat, reply)
+
+    def _transact(self, steps: List[Tuple[str, Sequence[Any]]], name: Optional[str]) -> Tuple[int, List[Result]]:
+        """A whole transaction: the number of its commit, and the answers to its statements."""
+        if name is not None:
+            text_bytes(name)
+        return self._serve(self._transact_steps, steps, name)
+
+    def _transact_steps(self, steps: List[Tuple[str, Sequence[Any]]], name: Optional[str]) -> Tuple[int, List[Result]]:
+        made, fault = self._steps(steps)
+        if fault is not None:
+            raise fault
+        session = self._session(name)
+        self._sessions.move_to_end(session.key)
+        status, replies = self._several(Operation.TRANSACT, session.number + number_bytes(len(made)) + b"".join(made))
+        self._done(status, replies[0], None, None)
+        answered = enumerate(zip(steps, replies[1:]))
+        results = [self._done(status, reply, step[0], place) for place, (step, reply) in answered]
+        committed = replies[1 + len(steps)]  # (behind which there is a ROLLBACK, where it was not done)
+        self._done(status, committed, None, None)
+        return COUNT.unpack_from(committed, 1)[0], results
+
+    def _steps(self, steps: Iterable[Tuple[str, Sequence[Any]]]) -> Tuple[List[bytes], Optional[Exception]]:
+        """Statements with their values as bytes of a request, up to the first that is not taken; and why it is not."""
+        made: List[bytes] = []
+        try:
+            for text, values in steps:
+                statement = self._statement(text)
+                count, given = parameter_bytes(values)
+                if count != statement.parameters:
+                    raise error_of(Status.WRONG_COUNT, b"", (statement.parameters, count))
+                made.append(statement.number + given)
+        except (Error, TypeError) as fault:
+            if isinstance(fault, Error):
+                fault.place = len(made)
+            return made, fault
+        return made, None
+
+    def _several(self, operation: int, request: bytes) -> Tuple[int, List[bytes]]:
+        """The status and the replies of a call that makes several events, of which the trace is told."""
+        status, reply = self._answered(operation, request)
+        if status == REPLY_WAITS or reply[:1] != bytes([Kind.SEVERAL]):
+            raise error_of(status, reply)
+        if self._trace is not None:
+            self._tell(self._trace)
+        return status, Reader(reply).replies()
+
     def _event_of(self, seat: Seat, operation: int, request: bytes, text: Optional[str] = None) -> bytes:
         """The reply to an event of a seat. A refusal may have ended its transaction."""
         try:
@@ -575,11 +674,17 @@ class Engine:
             self._put_seat_aside(seat, State.LOST)
             raise
         except Error as error:
-            if error.sqlstate in ENDING or error.number == EPOCH_FULL:
-                self._end(seat, State.REFUSED)
-            elif error.number == NO_TRANSACTION:
-                self._end(seat, State.ENDED)
+            self._note_refusal(seat, error)
             raise
+
+    def _note_refusal(self, seat: Seat, error: Error) -> None:
+        """Notes by a refusal how a seat's transaction has ended, if it has."""
+        if isinstance(error, JournalError) and error.errno is not None:
+            self._end(seat, State.LOST)  # nothing is answered any more
+        elif error.sqlstate in ENDING or error.number == EPOCH_FULL:
+            self._end(seat, State.REFUSED)
+        elif error.number == NO_TRANSACTION:
+            self._end(seat, State.ENDED)
 
     def _note(self, seat: Seat, reply: bytes) -> None:
         """Notes by a reply how a seat's transaction has ended, if it has."""
@@ -589,6 +694,15 @@ class Engine:
         elif reply[0] == Kind.ROLLED_BACK:
             self._end(seat, State.ROLLED_BACK)
 
+    def _done(self, status: int, reply: bytes, text: Optional[str], place: Optional[int]) -> Result:
+        """What one of several replies says. That of what was not done raises, with the place of its statement."""
+        if reply[0] not in UNDONE:
+            return _answer(reply)
+        error = error_of(status, reply, text, self)
+        if isinstance(error, Error):
+            error.place = place
+        raise error
+
     # -- prepared statements; the lock is held
 
     def _statement(self, text: str) -> Statement:
@@ -597,13 +711,7 @@ class Engine:
         if kept is not None:
             self._statements.move_to_end(text)
             return kept
-        try:
-            self._make(Operation.PREPARE, text_bytes(text), text, self._note_statement, text)
-        except Error as error:
-            statement = unended(text) if error.number == SYNTAX else None
-            if statement is None:
-                raise
-            self._make(Operation.PREPARE, text_bytes(statement), text, self._note_statement, text)
+        self._make(Operation.PREPARE, text_bytes(text), text, self._note_statement, text)
         while len(self._statements) > STATEMENTS:
             oldest, statement = next(iter(self._statements.items()))
             self._make(Operation.FORGET, statement.number, None, self._note_forgotten, oldest)
@@ -660,6 +768,9 @@ class Transaction:
         if not isinstance(values, (list, tuple)):
             sql, values = taken(sql, values)
         return self._engine._run_in_seat(self._seat, sql, values)
+
+    def _run_all(self, sql: str, rows: List[Sequence[Any]]) -> List[Result]:
+        return self._engine._run_all_in_seat(self._seat, sql, rows)
 
     def commit(self) -> int:
         """Commits, and gives the number of the commit.

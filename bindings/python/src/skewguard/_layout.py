@@ -2,58 +2,22 @@
 
 from __future__ import annotations
 
+import re
 from struct import Struct
 from typing import Any, Iterable, List, NoReturn, Tuple
 
+from ._numbers import Kind
 from .errors import ALL, ParameterError
 
 NUMBER = Struct("<q")
 NUMBER_VALUE = Struct("<Bq")
 COUNT = Struct("<Q")
 
-# Operations, statuses and kinds are plain numbers: members of an enum take long to look up, and each call does some.
-
-# The layout that this package was written for, by its number.
-LAYOUT = 1
-
 # The language takes numbers from -10^15 to 10^15.
 LARGEST = 10**15
 
-
-class Operation:
-    """What a call asks for."""
-
-    AGAIN = 0
-    LINE = 1
-    OPEN_SESSION = 2
-    CLOSE_SESSION = 3
-    PREPARE = 4
-    FORGET = 5
-    RUN = 6
-    EXECUTE = 7
-    BEGIN = 8
-    BEGIN_READ_ONLY = 9
-    COMMIT = 10
-    ROLLBACK = 11
-    REPORT = 12
-    CHECKPOINT = 13
-
-
-class Status:
-    """What became of a call."""
-
-    DONE = 0
-    REFUSED = 1
-    NO_MEMORY = 2
-    REPLY_WAITS = 3
-    BAD_REQUEST = 4
-    NO_SESSION = 5
-    NO_STATEMENT = 6
-    WRONG_COUNT = 7
-    BAD_VALUE = 8
-    BAD_NAME = 9
-    NAME_TAKEN = 10
-    CLOSED = 11
+# A control character of ASCII stands in no text, and half of a surrogate pair is no character.
+IN_NO_TEXT = re.compile("[\0-\x1f\x7f\ud800-\udfff]")
 
 
 class Fault:
@@ -68,6 +32,15 @@ class Fault:
     RETRIED = -7
     USED = -8
     NO_TEXT = -9
+    IO_ERROR = -16  # as skewguard.h has it
+
+
+class Role:
+    """What a text was to be that was refused."""
+
+    DEFINITIONS = 0
+    RULES = 1
+    STATEMENT = 2
 
 
 class State:
@@ -83,26 +56,19 @@ class State:
     INTERRUPTED = 7
 
 
-class Kind:
-    """What a reply is of."""
+# The numbers that stand in a reply of a kind.
+_NUMBERS = {
+    Kind.BEGUN: 1,
+    Kind.COMMITTED: 1,
+    Kind.INSERTED: 1,
+    Kind.UPDATED: 1,
+    Kind.DELETED: 1,
+    Kind.VERDICT: 1,
+    Kind.MISUSED: 1,
+}
 
-    NOTHING = 0
-    OPENED = 1
-    SESSION = 2
-    STATEMENT = 3
-    CHANGED = 4
-    BEGUN = 5
-    COMMITTED = 6
-    ROLLED_BACK = 7
-    INSERTED = 8
-    UPDATED = 9
-    DELETED = 10
-    ROWS = 11
-    MODES_SET = 12
-    VERDICT = 13
-    TEXT = 14
-    REFUSAL = 15
-    MISUSED = 16
+# Kinds of replies that tell of something that was not done.
+UNDONE = (Kind.NOTHING, Kind.REFUSAL, Kind.MISUSED)
 
 
 def number_bytes(number: int) -> bytes:
@@ -116,7 +82,7 @@ def counted(text: bytes) -> bytes:
 
 
 def text_bytes(text: str) -> bytes:
-    """The bytes of a text of the language. What is not ASCII goes along, so that the library says where it stands."""
+    """The bytes of a text of the language. What may not stand in one goes along, so that the library says where."""
     if not isinstance(text, str):
         raise TypeError(f"a text of SQL is a str, not {type(text).__name__}")
     return text.encode("utf-8", "surrogatepass")
@@ -134,7 +100,7 @@ def parameter_bytes(values: Iterable[Any]) -> Tuple[int, bytes]:
                 _refuse(place, "it is not from -10**15 to 10**15, as numbers are")
             pieces.append(NUMBER_VALUE.pack(1, value))
         elif isinstance(value, str):
-            pieces.append(b"\2" + counted(_printable(place, value)))
+            pieces.append(b"\2" + counted(_characters(place, value)))
         elif value is None:
             pieces.append(b"\0")
         elif isinstance(value, bool):
@@ -144,12 +110,12 @@ def parameter_bytes(values: Iterable[Any]) -> Tuple[int, bytes]:
     return len(pieces), COUNT.pack(len(pieces)) + b"".join(pieces)
 
 
-def _printable(place: int, text: str) -> bytes:
+def _characters(place: int, text: str) -> bytes:
     """The bytes of a text that a table may hold."""
-    if text.isascii() and text.isprintable():
-        return text.encode("ascii")
-    at = next(at for at, character in enumerate(text) if not " " <= character <= "~")
-    _refuse(place, f"its character {at + 1} is {text[at]!r}, and texts are of printable ASCII")
+    found = IN_NO_TEXT.search(text)
+    if not found:
+        return text.encode("utf-8")
+    _refuse(place, f"its character {found.start() + 1} is {found[0]!r}, which stands in no text")
 
 
 def _refuse(place: int, why: str) -> NoReturn:
@@ -190,3 +156,27 @@ class Reader:
     def values(self, count: int) -> List[Any]:
         value = self.value
         return [value() for _ in range(count)]
+
+    def replies(self) -> List[bytes]:
+        """The replies of a call that made several events."""
+        return [self._reply() for _ in range(self.number())]
+
+    def _reply(self) -> bytes:
+        """The next of several replies."""
+        start = self._at
+        kind = self._bytes[start]
+        self._at += 1
+        if kind == Kind.ROWS:
+            width = self.number()
+            for _ in range(width):
+                self.text()
+            self.values(self.number() * width)
+        elif kind == Kind.REFUSAL:
+            self.number(), self.text(), self.text(), self.value()
+            self._at += 5 * 8
+            self.text()
+        elif kind == Kind.TEXT:
+            self.text()
+        else:
+            self._at += 8 * _NUMBERS.get(kind, 0)
+        return self._bytes[start : self._at]

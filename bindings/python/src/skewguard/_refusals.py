@@ -2,19 +2,19 @@
 
 from __future__ import annotations
 
+import errno
+import os
 import sys
 from typing import Any, Callable, Dict, Optional, Tuple, Type, Union
 
 from . import errors
-from ._layout import Fault, Kind, Reader, State, Status
+from ._layout import Fault, Reader, Role, State
+from ._numbers import Kind, Status
 from .errors import DangerousStructure, Error, WriteConflict
 
 SYNTAX, TOO_DEEP = 2, 19
 VIOLATED, WRITE_CONFLICT, DANGEROUS, NO_TRANSACTION, EPOCH_FULL, FALSE_AT_CREATION = 10, 12, 13, 14, 17, 21
-TOO_MANY_SESSIONS = 24
-
-# So many characters of a line stand above a caret.
-SHOWN = 110
+TOO_MANY_SESSIONS, NOT_KEPT = 24, 25
 
 # The class of each fault's exception; ProgrammingError where none stands here.
 _CLASSES: Dict[int, Type[Error]] = {
@@ -26,6 +26,7 @@ _CLASSES: Dict[int, Type[Error]] = {
     EPOCH_FULL: errors.EpochFull,
     FALSE_AT_CREATION: errors.RuleViolated,
     TOO_MANY_SESSIONS: errors.OperationalError,
+    NOT_KEPT: errors.JournalError,
 }
 
 # What is said of each fault, with the name and the root or key that it tells.
@@ -50,8 +51,24 @@ _WORDS: Dict[int, str] = {
     22: "the attributes of {name} exclude each other",
     23: "the transaction is READ ONLY",
     TOO_MANY_SESSIONS: "too many transactions are open at once: there may be 256",
+    NOT_KEPT: "the commit could not be kept in the journal: its transaction is open",
 }
 
+# What is said of a journal's file by an errno, where the system's own words would not say it.
+_FILES: Dict[int, str] = {
+    errno.EWOULDBLOCK: "another process has the journal open",
+    errno.ELOOP: "a symbolic link stands there: name the file itself",
+    errno.EISDIR: "a folder stands there",
+    errno.ENOTSUP: "it is not a regular file",
+}
+
+# Why a file was not opened as a journal, with the number of a commit and a byte of the file.
+_UNRESTORED: Dict[int, str] = {
+    1: "this is no journal: it does not begin with the line of one",
+    2: "the journal is of other definitions: `skewguard checkpoint DEFS --journal FILE` takes these for what it holds",
+    3: "the journal is damaged at byte {byte}: commit {commit} is missing",
+    4: "the journal is damaged: commit {commit} is none of these tables",
+}
 
 # How a transaction ended.
 STATES: Dict[int, str] = {
@@ -68,6 +85,7 @@ STATES: Dict[int, str] = {
 _FAULTS: Dict[int, str] = {
     Status.REPLY_WAITS: "the call was answered, but there was no memory for its reply",
     Status.BAD_NAME: "a name is a letter, then letters, digits, _, 128 at most, and no reserved word",
+    Status.JOURNALED: "a manager that keeps a journal makes no checkpoint: `skewguard checkpoint` makes one of its file",
     Fault.CLOSED: "the manager is closed",
     Fault.CALLING: "a trace, or a signal's handler, may not call the manager in the midst of a call",
     Fault.OF_PARENT: "the manager belongs to the process that opened it: open one in each process",
@@ -80,14 +98,23 @@ _FAULTS: Dict[int, str] = {
 _FAULT_CLASSES: Dict[int, Type[Exception]] = {
     Status.REPLY_WAITS: errors.ReplyLost,
     Status.BAD_NAME: errors.ProgrammingError,
+    Status.JOURNALED: errors.OperationalError,
     Fault.RETRIED: TypeError,
 }
 
 
-def error_of(status: int, reply: bytes, detail: Any = None) -> Exception:
-    """The exception of a status that is not DONE, with what the fault is of: a text, a name, a state, two counts."""
-    if status == Status.REFUSED:
-        return refusal(reply, detail)
+def error_of(status: int, reply: bytes, detail: Any = None, engine: Any = None) -> Exception:
+    """The exception of a status that is not DONE, with what the fault is of: a text, a name, a state, two counts.
+
+    engine: the one that was given the text of a statement.
+    """
+    if status in (Status.REFUSED, Status.NOT_KEPT):
+        error = refusal(reply, detail)
+        if engine is not None and detail is not None:
+            error._refused = (Role.STATEMENT, engine._definitions, detail)
+        return error
+    if status in (Fault.IO_ERROR, Status.UNRESTORED):
+        return _journal_error(status, Reader(reply))
     if status == Status.NO_MEMORY:
         return no_memory()
     if status == Status.WRONG_COUNT:
@@ -103,6 +130,22 @@ def error_of(status: int, reply: bytes, detail: Any = None) -> Exception:
         return TypeError(f"a statement is a str, not {type(detail).__name__}")
     words = _FAULTS.get(status, f"the library answers with the status {status}")
     return _FAULT_CLASSES.get(status, errors.InterfaceError)(words)
+
+
+def _journal_error(status: int, reader: Reader) -> Error:
+    """That a journal was not opened, or that a call on its file failed."""
+    number = reader.number()
+    if status == Fault.IO_ERROR:
+        error = errors.JournalError(_FILES.get(number) or os.strerror(number))
+        error.errno = number
+        return error
+    commit, byte = reader.number(), reader.number()
+    error = errors.JournalError(_UNRESTORED[number].format(commit=commit, byte=byte))
+    if number >= 3:
+        error.commit = commit
+    if number == 3:
+        error.byte = byte
+    return error
 
 
 def tell(trace: Callable[[str], Any], line: str) -> None:
@@ -181,26 +224,15 @@ def _party(number: Optional[int]) -> str:
 
 
 def _fault_in_text(number: int, text: str, offset: int) -> Error:
-    """A fault of a text, with its line and a caret under the place."""
-    line, column, whole = place_of(text, offset)
-    what = "parentheses nest too deep" if number == TOO_DEEP else "the text stops being one of the language"
-    error = errors.ProgrammingError(f"{what} at line {line}, column {column}\n{_drawn(whole, column)}")
+    """A fault of a text, with its place."""
+    line, column = place_of(text, offset)
+    what = "parentheses nest too deep" if number == TOO_DEEP else "syntax error"
+    error = errors.ProgrammingError(f"{what} at line {line}, column {column}")
     error.line, error.column = line, column
     return error
 
 
-def _drawn(line: str, column: int) -> str:
-    """A line, or the part of a long one that lies around a column, and below it a caret under that column."""
-    start = max(0, column - 1 - SHOWN // 2)
-    part = line[start : start + SHOWN]
-    shown = "".join([character if character.isprintable() or character == "\t" else "?" for character in part])
-    indent = "".join(["\t" if character == "\t" else " " for character in part[: column - 1 - start]])
-    return f"  {shown}\n  {indent}^"
-
-
-def place_of(text: str, offset: int) -> Tuple[int, int, str]:
-    """Line and column of an offset in bytes, each from 1, and the line itself."""
+def place_of(text: str, offset: int) -> Tuple[int, int]:
+    """Line and column of an offset in bytes, each from 1."""
     before = text.encode("utf-8", "surrogatepass")[:offset].decode("utf-8", "replace")
-    start = before.rfind("\n") + 1
-    shown = text[start:].split("\n", 1)[0].rstrip("\r")
-    return before.count("\n") + 1, len(before) - start + 1, shown
+    return before.count("\n") + 1, len(before) - before.rfind("\n")

@@ -9,11 +9,11 @@ from __future__ import annotations
 import re
 from collections.abc import Mapping
 from functools import lru_cache
-from typing import Any, Iterable, Iterator, Optional, Sequence, Tuple, Union
+from typing import Any, Iterable, Iterator, List, Optional, Sequence, Tuple, Union
 
 from .errors import ParameterError
 
-__all__ = ["first_word", "taken", "tokens", "unended"]
+__all__ = ["first_word", "taken", "taken_rows", "tokens"]
 
 Values = Union[Iterable[Any], "Mapping[str, Any]"]
 
@@ -35,17 +35,6 @@ def tokens(text: str) -> Iterator[Tuple[str, str]]:
     for found in _TOKEN.finditer(text):
         assert found.lastgroup is not None
         yield found.lastgroup, found.group()
-
-
-def unended(sql: str) -> Optional[str]:
-    """A statement without the `;` at its end, with which scripts have it; None where it has none."""
-    at = end = 0
-    last = ""
-    for kind, token in tokens(sql):
-        if kind != "gap":
-            last, end = token, at
-        at += len(token)
-    return sql[:end] if last == ";" else None
 
 
 def first_word(sql: str) -> str:
@@ -79,6 +68,24 @@ def taken(sql: str, values: Values) -> Tuple[str, Sequence[Any]]:
             f"{type(values).__name__}"
         )
     return sql, list(values)
+
+
+def taken_rows(sql: str, rows: Iterable[Values]) -> Tuple[str, List[Sequence[Any]]]:
+    """A statement and lists of values for it, as the library takes them.
+
+    Raises what `taken` raises, and ParameterError where some come by their places and some by their names.
+    """
+    text: Optional[str] = None
+    lists: List[Sequence[Any]] = []
+    for place, values in enumerate(rows):
+        own, values = (sql, values) if isinstance(values, (list, tuple)) else taken(sql, values)
+        if text is not None and own != text:
+            error = ParameterError("some values come by their places, and some by their names")
+            error.place = place
+            raise error
+        text = own
+        lists.append(values)
+    return sql if text is None else text, lists
 
 
 def _by_name(sql: str, values: Mapping[str, Any]) -> Tuple[str, Sequence[Any]]:

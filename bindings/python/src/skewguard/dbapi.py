@@ -91,6 +91,9 @@ threadsafety = 2
 paramstyle = "qmark"
 
 Parameters = Union[Iterable[Any], Mapping[str, Any]]
+
+# So many statements of an `executemany` are run in one call.
+PART = 1000
 Column = Tuple[str, Optional["TypeObject"], None, None, None, None, None]
 
 
@@ -168,7 +171,8 @@ def connect(
     database: a manager, which connections share; or definitions, for a manager that the connection opens and closes.
     read_only, session: of its transactions, as `Manager.transaction` has them.
     autocommit: whether each statement is a transaction of its own.
-    options: `max_commits`, `trace` and `log` of a manager that is opened. Raises what `skewguard.open` raises.
+    options: `journal`, `max_commits`, `trace` and `log` of a manager that is opened. Raises what `skewguard.open`
+        raises.
     """
     is_own = not isinstance(database, Manager)
     if options and not is_own:
@@ -296,6 +300,33 @@ class Connection:
                     raise
                 # Another thread has ended it: the statement is one of the next.
 
+    def _run_all(self, operation: str, seq_of_parameters: Iterable[Parameters]) -> int:
+        """How many rows a statement has changed that is run with each of these values."""
+        is_listed = isinstance(seq_of_parameters, (list, tuple))
+        if not is_listed or self._autocommit and self._current() is None:
+            return sum(self._run(operation, parameters).count for parameters in seq_of_parameters)
+        total, rows = 0, list(seq_of_parameters)
+        for done in range(0, len(rows), PART):
+            try:
+                total += self._run_part(operation, rows[done : done + PART])
+            except Error as error:
+                if error.place is not None:
+                    error.place += done
+                raise
+        return total
+
+    def _run_part(self, operation: str, rows: List[Parameters]) -> int:
+        """The same of rows for one call, in the open transaction or in one that begins."""
+        while True:
+            self._check_open()
+            transaction = self._begun()
+            try:
+                return sum(result.count for result in transaction.run_all(operation, rows))
+            except InterfaceError as error:
+                if transaction._state == State.OPEN or error.place is not None:
+                    raise
+                # Another thread has ended it: the statements are some of the next.
+
     def _end(self, by: Callable[[Transaction], Any]) -> None:
         """Ends the open transaction, if there is one."""
         transaction = self._current()
@@ -371,16 +402,13 @@ class Cursor:
     def executemany(self, operation: str, seq_of_parameters: Iterable[Parameters]) -> Cursor:
         """Executes a statement that changes rows once for each of these values; gives the cursor.
 
-        Where one is refused, that raises, and those before it have been.
+        Where one is refused, that raises, and those before it have been. A list or a tuple of values goes in one call.
         """
         self._forget_rows()
         word = first_word(operation) if isinstance(operation, str) else ""
         if word in ("SELECT", "VERDICT", "SET", "BEGIN", "COMMIT", "ROLLBACK"):
             raise ProgrammingError(f"executemany changes rows, and {word} doesn't: use execute")
-        total = 0
-        for parameters in seq_of_parameters:
-            total += self.connection._run(operation, parameters).count
-        self.rowcount = total
+        self.rowcount = self.connection._run_all(operation, seq_of_parameters)
         return self
 
     def fetchone(self) -> Optional[Row]:

@@ -19,6 +19,7 @@ __all__ = [
     "Error",
     "IntegrityError",
     "InterfaceError",
+    "JournalError",
     "NoMemory",
     "OperationalError",
     "ParameterError",
@@ -54,12 +55,31 @@ class Error(Exception):
     sqlstate: five characters, None where the fault has none.
     names: the table, column or assertion that the fault names.
     report: the line that `skewguard replay` prints for it, empty without a number.
+    place: which statement it is of, from 0, in a call that runs several; None elsewhere.
+    explanation: where in its text the fault lies, and what may stand there or how else to say it, as `skewguard check`
+        shows it; empty where the text has no such fault, as where rows or other transactions were in the way.
     """
 
     number: Optional[int] = None
     sqlstate: Optional[str] = None
     names: Tuple[str, ...] = ()
     report: str = ""
+    place: Optional[int] = None
+    # Of which text it is: what that was to be, the definitions, and the text.
+    _refused: Optional[Tuple[int, str, str]] = None
+    _drawn: Optional[str] = None
+
+    @property
+    def explanation(self) -> str:
+        if self._drawn is None:
+            from ._drawing import drawn  # which stands on all that raises these
+
+            self._drawn = drawn(self.number, self._refused)
+        return self._drawn
+
+    def __str__(self) -> str:
+        shown = super().__str__()
+        return f"{shown}\n{self.explanation}" if self.explanation else shown
 
 
 class InterfaceError(Error):
@@ -81,7 +101,7 @@ class ProgrammingError(DatabaseError):
 
 
 class ParameterError(ProgrammingError, ValueError):
-    """Values don't suit their statement: too many or too few, beyond the range, of other than printable ASCII.
+    """Values don't suit their statement: too many or too few, beyond the range, a text with a control character.
 
     parameter: the place of the value, from 1; None where their number is wrong.
     """
@@ -148,6 +168,27 @@ class SerializationFailure(OperationalError):
 
 class EpochFull(OperationalError):
     """The manager takes no commit more: `Manager.checkpoint` begins a new epoch. The transaction has ended."""
+
+
+class JournalError(OperationalError):
+    """A journal can't be opened, or a commit was not kept in it.
+
+    errno: what the system says, where a call on the file failed; None elsewhere. From then on nothing is answered:
+        close the manager and open it again. Whether a COMMIT that raised this was kept is known then.
+    path: the file, where it was not opened.
+    commit, byte: of a damaged journal, the commit that is missing and where its line begins.
+
+    Without an errno a COMMIT that raises this has changed nothing, and its transaction is open.
+    """
+
+    errno: Optional[int] = None
+    path: Optional[str] = None
+    commit: Optional[int] = None
+    byte: Optional[int] = None
+
+    def __str__(self) -> str:
+        shown = super().__str__()
+        return shown if self.path is None else f"{self.path}: {shown}"
 
 
 class NoMemory(OperationalError, MemoryError):

@@ -5,12 +5,30 @@ from __future__ import annotations
 import functools
 import inspect
 import logging
-from typing import TYPE_CHECKING, Any, Callable, Dict, Iterable, NoReturn, Optional, Tuple, Type, TypeVar
+import os
+from typing import (
+    TYPE_CHECKING,
+    Any,
+    Callable,
+    Dict,
+    Iterable,
+    List,
+    NoReturn,
+    Optional,
+    Sequence,
+    Tuple,
+    Type,
+    TypeVar,
+    Union,
+)
 
 from . import _backend
-from ._layout import Fault, Operation, Reader, State, counted, number_bytes, text_bytes
+from ._layout import Fault, Reader, Role, State, counted, number_bytes, text_bytes
+from ._numbers import Operation
 from ._refusals import STATES, error_of
-from .errors import InterfaceError, SerializationFailure
+from ._texts import Values, taken, taken_rows
+from .errors import Error, InterfaceError, JournalError, SerializationFailure
+from .rows import Result
 
 if TYPE_CHECKING:
     from ._asynchronous import AsyncTransaction
@@ -22,10 +40,14 @@ T = TypeVar("T")
 
 MOST_COMMITS = 2**32 - 1
 
+# As many statements of a call can be kept prepared at once; one with more is made by a call for each.
+MOST_TEXTS = 200
+
 
 def open(
     definitions: str,
     *,
+    journal: Union[None, str, "os.PathLike[str]"] = None,
     max_commits: int = 1_000_000,
     trace: Optional[Callable[[str], Any]] = None,
     log: Optional[logging.Logger] = None,
@@ -33,6 +55,9 @@ def open(
     """A manager on the tables, assertions and rows that the definitions define.
 
     definitions: CREATE TABLE, CREATE ASSERTION and INSERT, each with its `;`.
+    journal: the file of a journal, which is made where there is none. Each COMMIT is on the disk before it returns, and
+        the next `open` goes on from there: the tables are then those that the file holds, and the rows of the
+        definitions are passed over. No other process may have it open.
     max_commits: so many commits are taken, until `checkpoint` begins a new epoch (1 to 4,294,967,295).
     trace: is called with the line of the report for each event, as `skewguard replay` prints it. It runs in the midst
         of the call, and may not call the manager.
@@ -41,7 +66,7 @@ def open(
 
     Raises ProgrammingError for a text that is not of the language or doesn't fit together, IntegrityError and
     DataError for a row that its table can't take, RuleViolated for an assertion that is false on the rows to begin
-    with, and NoMemory.
+    with, JournalError for a file that can't be opened, is damaged or of other definitions, and NoMemory.
     """
     if isinstance(max_commits, bool) or not isinstance(max_commits, int):
         raise TypeError(f"max_commits is a number, not {type(max_commits).__name__}")
@@ -52,9 +77,19 @@ def open(
     if log is not None and not isinstance(log, logging.Logger):
         raise TypeError(f"log is a logging.Logger, not {type(log).__name__}")
     request = number_bytes(max_commits) + text_bytes(definitions)
+    path = None if journal is None else os.fsencode(journal)
+    if path is not None and b"\0" in path:
+        raise ValueError("the name of the journal's file has a NUL in it")
     _backend.find_library()
-    manager = Manager(request, definitions, _told(trace, log))
-    manager._log = log
+    try:
+        manager = Manager(request, definitions, _told(trace, log), path)
+    except JournalError as error:
+        error.path = os.fsdecode(journal) if journal is not None else None
+        raise
+    except Error as error:
+        error._refused = (Role.DEFINITIONS, "", definitions)
+        raise
+    manager._log, manager._definitions = log, definitions
     return manager
 
 
@@ -80,6 +115,7 @@ class Manager(_backend.Engine):
     """
 
     _log: Optional[logging.Logger] = None
+    _definitions: str = ""
 
     if TYPE_CHECKING:
 
@@ -117,6 +153,50 @@ class Manager(_backend.Engine):
         _check_names(function, options)
         return self.transaction(**{"retry": 3, **options}).run(function, *arguments, **named)
 
+    def run_transaction(
+        self, steps: Iterable[Tuple[str, Values]], *, retry: int = 3, session: Optional[str] = None
+    ) -> Tuple[int, List[Result]]:
+        """A whole transaction in one call: the number of its commit, and the answers to these statements with values.
+
+            number, answers = manager.run_transaction([
+                ("UPDATE ACCOUNTS SET BAL = BAL - ? WHERE ID = ?", [5, 1]),
+                ("UPDATE ACCOUNTS SET BAL = BAL + ? WHERE ID = ?", [5, 2]),
+            ])
+
+        It begins, runs the statements as `Transaction.execute` does, and commits. What a statement raises has its
+        `place` among them, from 0; none is run behind it, and the transaction is rolled back. A COMMIT that others were
+        in the way of is tried again, with the whole, at most `retry` times more. Other threads run meanwhile, and the
+        manager's lock is taken once: where threads share a manager it takes less time than as many calls.
+
+        session: as of `transaction`.
+        """
+        taken_steps = [step if _is_step(step) else _step(*step) for step in steps]
+        left = _checked_retry(retry)
+        is_long = len(taken_steps) > MOST_TEXTS and len({text for text, _ in taken_steps}) > MOST_TEXTS
+        while True:
+            try:
+                if is_long:
+                    return self._transact_each(taken_steps, session)
+                done: Tuple[int, List[Result]] = self._transact(taken_steps, session)
+                return done
+            except SerializationFailure as failure:
+                if not left:
+                    raise
+                left -= 1
+                self._log_failure(failure)
+
+    def _transact_each(
+        self, steps: List[Tuple[str, Sequence[Any]]], session: Optional[str]
+    ) -> Tuple[int, List[Result]]:
+        """The same by a call for each of its events."""
+        with self.transaction(session=session) as transaction:
+            results = [transaction.execute(*step) for step in steps]
+            return transaction.commit(), results
+
+    def _log_failure(self, failure: SerializationFailure) -> None:
+        if self._log is not None:
+            self._log.info("run again: %s", failure)
+
     def checkpoint(self, create: str = "", drop: Iterable[str] = ()) -> str:
         """Begins a new epoch on the newest tables, and gives the closing part of the report of the one that ended.
 
@@ -130,7 +210,11 @@ class Manager(_backend.Engine):
             raise TypeError(f"drop is a list of names: [{drop!r}]")
         names = [b"\2" + counted(text_bytes(name)) for name in drop]
         request = counted(text_bytes(create)) + number_bytes(len(names)) + b"".join(names)
-        return Reader(self._call(Operation.CHECKPOINT, request, create)).text()
+        try:
+            return Reader(self._call(Operation.CHECKPOINT, request, create)).text()
+        except Error as error:
+            error._refused = (Role.RULES, self._definitions, create)
+            raise
 
     def report(self) -> str:
         """The closing part of the report: commits, their serial order, refused COMMITs, each assertion's truth."""
@@ -166,6 +250,18 @@ class Transaction(_backend.Transaction):
     if TYPE_CHECKING:
 
         def __enter__(self) -> Transaction: ...
+
+    def run_all(self, sql: str, rows: Iterable[Values]) -> List[Result]:
+        """Runs a statement once with each of these values, in one call, and gives the answers.
+
+            t.run_all("INSERT INTO DUTY VALUES (?, ?)", [("KIM", 1), ("LEE", 0)])
+
+        Each is answered as by `execute`. The first that is refused, or whose values the statement does not take,
+        raises, with its `place` among them, from 0; those before it have been, and none is run behind it. What is no
+        list of values at all raises before anything is run.
+        """
+        results: List[Result] = self._run_all(*taken_rows(_exact(sql), rows))
+        return results
 
     def verdict(self, rule: str) -> Optional[bool]:
         """How an assertion stands on the transaction's own tables: True, False, or None for unknown."""
@@ -248,9 +344,27 @@ def _run(like: Transaction, function: Callable[..., T], arguments: Tuple[Any, ..
         except SerializationFailure as failure:
             if not left:
                 raise
-            if manager._log is not None:
-                manager._log.info("run again: %s", failure)
+            manager._log_failure(failure)
     raise AssertionError("the last attempt returns or raises")
+
+
+def _is_step(step: Any) -> bool:
+    """Whether a step is as the library takes it."""
+    return type(step) is tuple and len(step) == 2 and type(step[0]) is str and type(step[1]) in (list, tuple)
+
+
+def _step(sql: str, values: Values = ()) -> Tuple[str, Sequence[Any]]:
+    """A statement of a transaction, and its values."""
+    return (_exact(sql), values) if isinstance(values, (list, tuple)) else taken(_exact(sql), values)
+
+
+def _exact(sql: str) -> str:
+    """A text as a str that is no subtype of it."""
+    if type(sql) is str:
+        return sql
+    if not isinstance(sql, str):
+        raise error_of(Fault.NO_TEXT, b"", sql)
+    return str.__str__(sql)
 
 
 def _check_names(function: Callable[..., Any], options: Dict[str, Any]) -> None:

@@ -1,16 +1,16 @@
 use Rattle.std.proofs.lemmas.Result.{err_from_is_err_and}
-use Rattle.messages.specs.Reading.{values_in}
+use Rattle.messages.specs.Reading.{value_at, values_in}
 use Rattle.messages.proofs.Loop.{goes_on, ends, is_done}
 use Rattle.messages.proofs.reading.read_some.Goals as goal
 
 pub returns-in_err-value : goal.returns-in_err-value
 returns-in_err-value c =
     let p = err_from_is_err_and c.from_residual.result c.from_residual.ensures.1 in
-    rw (p.1, p.2) (ends c.in_err-value.field-0.0 c.loop.values.items c.args.count c.loop.counter c.loop.rest.now (values_in c.args.count c.args.bytes.now) c.loop-test.true c.in_err-value.ensures c.loop.invariant)
+    rw (p.1, p.2) (ends value_at c.in_err-value.field-0.0 c.loop.values.items c.args.count c.loop.counter c.loop.rest.now (values_in c.args.count c.args.bytes.now) c.loop-test.true c.in_err-value.ensures c.loop.invariant)
 
 pub loop-preserved : goal.loop-preserved
 loop-preserved c =
-    rw c.in_ok-push.ensures.items (goes_on c.loop.values.items c.args.count c.loop.counter c.loop.rest.now c.in_ok-value.value c.in_ok-value.behind.now (values_in c.args.count c.args.bytes.now) c.loop-test.true c.in_ok-value.ensures c.loop.invariant)
+    rw c.in_ok-push.ensures.items (goes_on value_at c.loop.values.items c.args.count c.loop.counter c.loop.rest.now c.in_ok-value.value c.in_ok-value.behind.now (values_in c.args.count c.args.bytes.now) c.loop-test.true c.in_ok-value.ensures c.loop.invariant)
 
 pub returns : goal.returns
-returns c = is_done c.loop.values.items c.args.count c.loop.counter c.loop.rest.now (values_in c.args.count c.args.bytes.now) c.loop-test.false c.loop.invariant
+returns c = is_done value_at c.loop.values.items c.args.count c.loop.counter c.loop.rest.now (values_in c.args.count c.args.bytes.now) c.loop-test.false c.loop.invariant

@@ -1,0 +1,143 @@
+#!/usr/bin/env python3
+"""Commits a second with a journal, and how long it takes to open one: skewguard's shell, and SQLite on the same disk.
+
+    python3 bench/journal.py [PROGRAM] [--commits 3000] [--open 100000] [--repetitions 5] [--folder FOLDER]
+
+A transaction is BEGIN, one UPDATE of a row by its key under a rule by groups, and COMMIT, by one session, each COMMIT
+synced by itself or up to so many with one sync. The sides take turns on the same folder: the shell with --journal, the
+shell without, SQLite through the module sqlite3 with a write-ahead log, synchronous=FULL and then NORMAL (which may
+lose what was acknowledged), and a bare fdatasync of 80 bytes over zeros. The table that docs/PERFORMANCE.md holds is
+printed as it stands there, of medians. Each answer of the shell is looked at. To open: a journal of so many commits is
+made without a sync, line by line as the shell writes them, and a shell without events is timed on it.
+"""
+
+import argparse
+import os
+import pathlib
+import statistics
+import subprocess
+import sys
+import tempfile
+import time
+
+sys.path.insert(0, str(pathlib.Path(__file__).resolve().parents[1] / "tools"))
+
+from harness import loads
+from harness.journals import lines_of, spelled
+from harness.programs import PROGRAM
+
+ROWS = 1000
+SHARED = 4, 16, 1000  # so many commits share a sync
+
+
+def events(commits):
+    keys = (at * 7 % ROWS for at in range(commits))
+    return "".join(f"BEGIN; UPDATE ACCT SET BAL = BAL + 1 WHERE ID = {key}; COMMIT;\n" for key in keys)
+
+
+def run_shell(program, folder, script, *options):
+    words = [program, "shell", folder / "defs.sql", *options]
+    return subprocess.run(words, input=script, capture_output=True, check=True)
+
+
+def timed_shell(program, folder, commits, *options):
+    """Seconds of a shell that answers so many transactions."""
+    script = events(commits).encode()
+    began = time.perf_counter()
+    done = run_shell(program, folder, script, *options)
+    seconds = time.perf_counter() - began
+    if done.stdout.count(b"ME: COMMIT ") != commits:
+        sys.exit("not each COMMIT was accepted")
+    return seconds
+
+
+def timed_sqlite(folder, commits, synchronous):
+    path = folder / "sqlite.db"
+    for old in folder.glob("sqlite.db*"):
+        old.unlink()
+    database = loads.sqlite_ledger(path, ROWS, synchronous)
+    began = time.perf_counter()
+    for at in range(commits):
+        database.execute("BEGIN")
+        database.execute("UPDATE ACCT SET BAL = BAL + 1 WHERE ID = ?", (at * 7 % ROWS,))
+        database.execute("COMMIT")
+    seconds = time.perf_counter() - began
+    database.close()
+    return seconds
+
+
+def timed_syncs(folder, commits):
+    path = folder / "bare"
+    path.write_bytes(bytes(100 * commits))
+    with open(path, "r+b", buffering=0) as file:
+        os.fsync(file.fileno())
+        began = time.perf_counter()
+        for at in range(commits):
+            os.pwrite(file.fileno(), b"x" * 80, 80 * at)
+            os.fdatasync(file.fileno())
+        return time.perf_counter() - began
+
+
+def timed_opening(program, folder, commits):
+    """Seconds in which a journal of so many commits is opened."""
+    path = folder / "long"
+    path.unlink(missing_ok=True)
+    timed_shell(program, folder, 1, "--journal", path)
+    held = path.read_bytes()
+    balances = [balance for *_, balance in loads.accounts(ROWS)]
+    balances[0] += 1
+    lines = []
+    for number in range(2, commits + 1):
+        key = number * 7 % ROWS
+        row, old = (3, key, key // loads.MEMBERS), balances[key]
+        balances[key] += 1
+        fields = (number, number - 1, 1, 0, key, *row, old, *row, balances[key])
+        lines.append(spelled(str(field).encode() for field in fields))
+    path.write_bytes(held[:lines_of(held)[-1].end] + b"".join(lines) + bytes(1 << 16))
+    began = time.perf_counter()
+    run_shell(program, folder, b"", "--journal", path)
+    return time.perf_counter() - began
+
+
+def main():
+    parser = argparse.ArgumentParser(description=__doc__.split("\n", 1)[0])
+    parser.add_argument("program", nargs="?", default=PROGRAM)
+    parser.add_argument("--commits", type=int, default=3000)
+    parser.add_argument("--open", type=int, default=100_000)
+    parser.add_argument("--repetitions", type=int, default=5)
+    parser.add_argument("--folder", default=None)
+    words = parser.parse_args()
+    with tempfile.TemporaryDirectory(dir=words.folder) as made:
+        folder = pathlib.Path(made)
+        (folder / "defs.sql").write_text("".join(loads.ledger(ROWS)))
+        sides = {
+            "`shell --journal`": lambda: timed_fresh(words.program, folder, words.commits),
+            **{f"`shell --journal`, up to {most} commits a sync": shared(words, folder, most) for most in SHARED},
+            "`shell`, in memory alone": lambda: timed_shell(words.program, folder, words.commits),
+            "SQLite, WAL, FULL": lambda: timed_sqlite(folder, words.commits, "FULL"),
+            "SQLite, WAL, NORMAL": lambda: timed_sqlite(folder, words.commits, "NORMAL"),
+            "a bare fdatasync of 80 bytes": lambda: timed_syncs(folder, words.commits),
+        }
+        seconds = {side: [] for side in sides}
+        for _ in range(words.repetitions):
+            for side, run in sides.items():
+                seconds[side].append(run())
+        print("| one session, a sync each but where more share one | commits a second |\n|---|---|")
+        for side, each in seconds.items():
+            print(f"| {side} | {words.commits / statistics.median(each):,.0f} |")
+        opening = statistics.median(timed_opening(words.program, folder, words.open) for _ in range(words.repetitions))
+        print(f"\nA journal of {words.open:,} commits over {ROWS:,} rows is opened in {opening:.2f} s.")
+
+
+def shared(words, folder, most):
+    return lambda: timed_fresh(words.program, folder, words.commits, "--sync-every", str(most))
+
+
+def timed_fresh(program, folder, commits, *options):
+    """Seconds of a shell that makes a journal and keeps so many transactions in it."""
+    (folder / "journal").unlink(missing_ok=True)
+    return timed_shell(program, folder, commits, "--journal", folder / "journal", *options)
+
+
+if __name__ == "__main__":
+    main()

@@ -1,0 +1,258 @@
+"""A journal: what is committed outlives the process, and what stands in the place of one is refused."""
+
+import os
+import random
+import resource
+import signal
+import subprocess
+import sys
+import tempfile
+import threading
+import unittest
+from contextlib import contextmanager
+from pathlib import Path
+
+import skewguard
+from skewguard import dbapi
+from skewguard._implementation import native
+
+LEDGER = """
+CREATE TABLE ENTRY (ID INTEGER PRIMARY KEY, OWNER VARCHAR(10), AMOUNT INTEGER NOT NULL);
+CREATE ASSERTION COVERED CHECK (NOT EXISTS (SELECT OWNER FROM ENTRY GROUP BY OWNER HAVING SUM(AMOUNT) < 0));
+INSERT INTO ENTRY VALUES (1000, 'Žofie', 5);
+"""
+INSERT = "INSERT INTO ENTRY VALUES (?, ?, ?)"
+ROUNDS = 25
+ROWS = 100
+THREADS = 8
+
+# Commits one row after the other, and prints the number of each once its commit is answered.
+WRITER = f"""
+import sys
+import skewguard
+
+manager = skewguard.open({LEDGER!r}, journal=sys.argv[1])
+first = len(manager.run(lambda t: t.execute("SELECT * FROM ENTRY WHERE OWNER = 'KIM'")))
+for number in range(first, first + 100_000):
+    manager.run(lambda t: t.execute({INSERT!r}, [number, "KIM", 1]))
+    sys.stdout.write(f"{{number}}\\n")
+    sys.stdout.flush()
+"""
+
+
+def rows(manager):
+    return [tuple(row) for row in manager.run(lambda t: t.execute("SELECT * FROM ENTRY"))]
+
+
+def insert(manager, number, owner="KIM", amount=1):
+    return manager.run(lambda t: t.execute(INSERT, [number, owner, amount]))
+
+
+@contextmanager
+def full_disk(size):
+    """No file grows past a size: a write past it fails, as on a full disk."""
+    before = resource.getrlimit(resource.RLIMIT_FSIZE)
+    at_limit = signal.signal(signal.SIGXFSZ, signal.SIG_IGN)
+    resource.setrlimit(resource.RLIMIT_FSIZE, (size, before[1]))
+    try:
+        yield
+    finally:
+        resource.setrlimit(resource.RLIMIT_FSIZE, before)
+        signal.signal(signal.SIGXFSZ, at_limit)
+
+
+class JournalTest(unittest.TestCase):
+    def setUp(self):
+        folder = tempfile.TemporaryDirectory()
+        self.addCleanup(folder.cleanup)
+        self.path = Path(folder.name) / "ledger.journal"
+
+    @contextmanager
+    def fault(self, **fields):
+        """That opening it is refused with a JournalError that has these fields."""
+        with self.assertRaises(skewguard.JournalError) as caught:
+            skewguard.open(LEDGER, journal=self.path)
+        self.assertEqual(caught.exception.path, str(self.path))
+        self.assertTrue(str(caught.exception).startswith(f"{self.path}: "), caught.exception)
+        for name, value in fields.items():
+            self.assertEqual(getattr(caught.exception, name), value, caught.exception)
+        yield caught.exception
+
+    def test_what_is_committed_is_there_again(self):
+        with skewguard.open(LEDGER, journal=str(self.path)) as manager:
+            insert(manager, 1)
+            lost = manager.begin()
+            lost.execute(INSERT, [2, "KIM", 1])
+            with self.assertRaises(skewguard.RuleViolated):
+                insert(manager, 3, "LEE", -1)
+        with skewguard.open(LEDGER, journal=self.path) as manager:
+            self.assertEqual(rows(manager), [(1, "KIM", 1), (1000, "Žofie", 5)])
+            number, _ = manager.run_transaction([(INSERT, (2, "KIM", 1)), ("DELETE FROM ENTRY WHERE ID = ?", (1000,))])
+            self.assertEqual(number, 2)  # behind the read of its own
+        with skewguard.open(LEDGER, journal=self.path) as manager:
+            self.assertEqual(rows(manager), [(1, "KIM", 1), (2, "KIM", 1)])
+
+    def test_connections_keep_one(self):
+        with dbapi.connect(LEDGER, journal=self.path) as connection:
+            connection.cursor().execute(INSERT, (7, "KIM", 2))
+        connection.close()
+        connection = dbapi.connect(LEDGER, journal=self.path)
+        found = connection.cursor().execute("SELECT * FROM ENTRY WHERE ID = 7").fetchall()
+        self.assertEqual([tuple(row) for row in found], [(7, "KIM", 2)])
+        connection.close()
+
+    def test_kill(self):
+        """However it ends, as many rows are there as were answered, or the one more that was being committed."""
+        kept = 0
+        chance = random.Random(58)
+        for _ in range(ROUNDS):
+            words = [sys.executable, "-c", WRITER, str(self.path)]
+            writer = subprocess.Popen(words, stdout=subprocess.PIPE, text=True)
+            try:
+                told = [writer.stdout.readline() for _ in range(chance.randrange(1, 40))]
+            finally:
+                writer.send_signal(signal.SIGKILL)
+                told += writer.communicate()[0].splitlines(keepends=True)
+            answered = kept + sum(line.endswith("\n") for line in told)
+            with skewguard.open(LEDGER, journal=self.path) as manager:
+                kept = sum(owner == "KIM" for _, owner, _ in rows(manager))
+            self.assertIn(kept, (answered, answered + 1))
+
+    def test_full_disk(self):
+        """Nothing is answered behind a write that failed, and nothing that was answered is lost."""
+        with skewguard.open(LEDGER, journal=self.path) as manager:
+            with full_disk(self.path.stat().st_size):
+                answered = 0
+                with self.assertRaises(skewguard.JournalError) as caught:
+                    for first in range(2_000, 10**9, ROWS):
+                        steps = [(INSERT, (first + row, "x" * 10, 1)) for row in range(ROWS)]
+                        manager.run_transaction(steps)
+                        answered += ROWS
+            self.assertIsNotNone(caught.exception.errno)
+            self.assertGreater(answered, 10 * ROWS)
+            for call in (manager.begin, manager.report, lambda: insert(manager, 5)):
+                with self.assertRaises(skewguard.JournalError):
+                    call()
+        with skewguard.open(LEDGER, journal=self.path) as manager:
+            self.assertIn(len(rows(manager)) - 1, (answered, answered + ROWS))
+
+    def insert_from_threads(self, manager):
+        """Threads commit side by side, up to the first error of each: the rows that were acknowledged, and errors."""
+        acknowledged, errors = [], []
+
+        def work(first):
+            for number in range(first, 1000, THREADS):
+                try:
+                    insert(manager, number, f"T{first}")
+                except skewguard.Error as error:
+                    errors.append(error)
+                    return
+                acknowledged.append(number)
+
+        threads = [threading.Thread(target=work, args=(first,)) for first in range(THREADS)]
+        for thread in threads:
+            thread.start()
+        for thread in threads:
+            thread.join()
+        return acknowledged, errors
+
+    def lines(self):
+        """The number of each entry, and of the last that was on the disk when it was written."""
+        fields = [line.split(b"\t") for line in self.path.read_bytes().rstrip(b"\0").split(b"\n")[1:] if line]
+        return [(int(line[0]), int(line[1])) for line in fields]
+
+    def test_threads_keep_what_is_acknowledged(self):
+        with skewguard.open(LEDGER, journal=self.path) as manager:
+            acknowledged, errors = self.insert_from_threads(manager)
+            self.assertEqual(errors, [])
+        self.assertTrue(all(number - durable >= 1 for number, durable in self.lines()[1:]))
+        with skewguard.open(LEDGER, journal=self.path) as manager:
+            self.assertLessEqual(set(acknowledged), {row[0] for row in rows(manager)})
+
+    @unittest.skipUnless(native, "over ctypes each call syncs by itself")
+    def test_threads_share_syncs(self):
+        for _ in range(10):  # whether they meet is chance
+            with skewguard.open(LEDGER, journal=self.path) as manager:
+                self.insert_from_threads(manager)
+            if any(number - durable > 1 for number, durable in self.lines()):
+                return
+            self.path.unlink()
+        self.fail("no two commits have shared a sync")
+
+    def test_full_disk_under_threads(self):
+        with skewguard.open(LEDGER, journal=self.path) as manager:
+            insert(manager, 2000)
+            with full_disk(self.path.stat().st_size - (1 << 20) + 20000):
+                acknowledged, errors = self.insert_from_threads(manager)
+                with self.assertRaises(skewguard.JournalError):
+                    insert(manager, 2001)
+        self.assertEqual(len(errors), THREADS)
+        self.assertTrue(all(isinstance(error, skewguard.JournalError) for error in errors), errors)
+        with skewguard.open(LEDGER, journal=self.path) as manager:
+            self.assertLessEqual(set(acknowledged), {row[0] for row in rows(manager)})
+
+    def test_one_at_a_time(self):
+        with skewguard.open(LEDGER, journal=self.path) as manager:
+            with self.fault(errno=11) as error:
+                self.assertIn("another process has the journal open", str(error))
+            with self.assertRaises(skewguard.OperationalError):
+                manager.checkpoint()
+            insert(manager, 1)
+            child = os.fork()
+            if not child:
+                try:
+                    insert(manager, 2)
+                except skewguard.InterfaceError:
+                    os._exit(7)
+                os._exit(1)
+            self.assertEqual(os.waitstatus_to_exitcode(os.waitpid(child, 0)[1]), 7)
+            insert(manager, 2)
+        with skewguard.open(LEDGER, journal=self.path) as manager:
+            self.assertEqual(len(rows(manager)), 3)
+
+    def test_what_is_no_journal(self):
+        self.path.mkdir()
+        with self.fault(errno=21):
+            self.path.rmdir()
+        os.mkfifo(self.path)
+        with self.fault(errno=95):
+            self.path.unlink()
+        self.path.symlink_to("nowhere")
+        with self.fault(errno=40):
+            self.path.unlink()
+        self.path.write_text("no journal")
+        with self.fault(errno=None):
+            self.assertEqual(self.path.read_text(), "no journal")
+        self.path = self.path.parent / "no-folder" / "journal"
+        with self.fault(errno=2):
+            pass
+
+    def test_damage_and_other_definitions(self):
+        with skewguard.open(LEDGER, journal=self.path) as manager:
+            for number in range(3):
+                insert(manager, number)
+        with self.assertRaises(skewguard.JournalError) as caught:
+            skewguard.open(LEDGER.replace("VARCHAR(10)", "VARCHAR(11)"), journal=self.path)
+        self.assertIn("of other definitions", str(caught.exception))
+        whole = self.path.read_bytes()
+        place = whole.index(b"\n2\t1\t")  # in front of the line of the second commit
+        self.path.write_bytes(whole[: place + 1] + b"3" + whole[place + 2 :])
+        with self.fault(commit=2, byte=place):
+            self.path.write_bytes(whole)
+        with skewguard.open(LEDGER, journal=self.path) as manager:
+            self.assertEqual(len(rows(manager)), 4)
+
+    def test_names_that_no_file_has(self):
+        with self.assertRaises(ValueError):
+            skewguard.open(LEDGER, journal="a\0b")
+        with self.assertRaises(TypeError):
+            skewguard.open(LEDGER, journal=7)
+
+    def test_definitions_that_are_refused_make_no_file(self):
+        with self.assertRaises(skewguard.ProgrammingError):
+            skewguard.open("CREATE TABEL", journal=self.path)
+        self.assertEqual(list(self.path.parent.iterdir()), [])
+
+
+if __name__ == "__main__":
+    unittest.main()

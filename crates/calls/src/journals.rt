@@ -1,0 +1,239 @@
+//! A database on a journal, whose file its caller has.
+
+ghost use Rattle.std.specs.Prelude.{◌≡◌, ◌≤◌, length, IfErr, IfOk};
+ghost use Rattle.calls.specs.Calls as calls;
+ghost use Rattle.calls.specs.Journals as spec;
+
+use crate::databases::{Database, refusal_response};
+use crate::images::spell_image;
+use crate::kept::KeptEngine;
+use crate::sessions::Sessions;
+use crate::statements::Statements;
+use delta::View;
+use durable::{Ledger, OpenFault};
+use journal::{Header, read_header, sum_of};
+use journal_file::{JournalFile, Outbox};
+use messages::{Response, Source, Unrestored};
+use replay::admit_text;
+use std::alloc::{AllocError, Global};
+use value::{Refusal, Text};
+
+/// What became of the calls that waited.
+#[derive(Clone, Copy, Debug, PartialEq, Eq)]
+pub enum Taken {
+    /// They are handed out.
+    Whole,
+    /// They do not fit, and wait.
+    TooLong,
+    /// There was no memory for them. No commit is kept any more: the file has to be opened again.
+    NotKept,
+}
+
+fn unrestored_response(why: Unrestored) -> Response
+    ensures { result ≡ spec.unrestored_response why }
+{
+    Response::Unrestored(why)
+}
+
+/// What is answered where the commits behind a header of so many bytes were not restored.
+fn open_fault_response(base: usize, fault: OpenFault) -> Response
+    ensures { spec.IsFault result }
+{
+    match fault {
+        OpenFault::NoMemory => refusal_response(Source::Definitions, Refusal::NoMemory),
+        // (calls that wait fail only for want of memory)
+        OpenFault::Disk => refusal_response(Source::Definitions, Refusal::NoMemory),
+        OpenFault::Damaged { number, at } => {
+            let at = base.saturating_add(at);
+            unrestored_response(Unrestored::Damaged { number, at })
+        }
+        OpenFault::NotDue { number } => unrestored_response(Unrestored::NotDue { number }),
+        OpenFault::False(refusal) => refusal_response(Source::Journal, refusal),
+    }
+}
+
+/// The header of a journal of these definitions, and where its body begins.
+fn read_head(definitions: &[u8], file: &[u8]) -> Result<(Header, usize), Unrestored>
+    ensures read { IfOk result (λ read. spec.IsHead definitions.now file.now read.0 read.1) }
+    ensures within { IfOk result (λ read. read.1 ≤ length file.now) }
+    ensures refused { IfErr result (spec.IsNoHead definitions.now file.now) }
+{
+    match read_header(file) {
+        None => Err(Unrestored::Headless),
+        Some((header, body)) => {
+            if header.declared == sum_of(definitions) {
+                Ok((header, file.len().saturating_sub(body.len())))
+            } else {
+                Err(Unrestored::OfOthers)
+            }
+        }
+    }
+}
+
+/// The ledger of a file, behind its header of so many bytes.
+fn open_behind(
+    alloc: Global,
+    file: &[u8],
+    base: usize,
+    first: u64,
+    declared: &View,
+    limit: u64,
+) -> Result<Ledger<JournalFile<Outbox>>, OpenFault>
+    requires within { limit ≤ 4294967295 }
+    requires behind { base ≤ length file.now }
+    ensures { IfOk result (λ ledger. spec.IsOpenedBehind file.now base first declared.now limit
+        ledger.engine ledger.writer) }
+{
+    let device = JournalFile::of_read(alloc, file).behind(base);
+    Ledger::open(alloc, device, &file[base..], first, declared, limit)
+}
+
+/// The same, of which the commits share the syncs that the caller makes.
+#[tactic(auto, using(crate::proofs::Opening::opened_shared))]
+fn open_sharing(
+    alloc: Global,
+    file: &[u8],
+    base: usize,
+    first: u64,
+    declared: &View,
+    limit: u64,
+) -> Result<Ledger<JournalFile<Outbox>>, OpenFault>
+    requires within { limit ≤ 4294967295 }
+    requires behind { base ≤ length file.now }
+    ensures { IfOk result (λ ledger. spec.IsOpenedBehind file.now base first declared.now limit
+        ledger.engine ledger.writer) }
+{
+    let mut ledger = open_behind(alloc, file, base, first, declared, limit)?;
+    ledger.share_syncs();
+    Ok(ledger)
+}
+
+/// Writes bytes over the front of a buffer.
+fn write_over(from: &[u8], buf: &mut [u8])
+    requires fits { length from.now ≤ length buf.old }
+    ensures { buf.new ≡ spec.written_over buf.old from.now }
+{
+    buf[..from.len()].copy_from_slice(from);
+}
+
+impl Database {
+    /// What a journal's file says of these definitions, with at most so many commits more, and no session. The file was
+    /// read behind a sync.
+    ///
+    /// # Errors
+    ///
+    /// Why there is no database: the definitions are refused, the file is no journal, is of other definitions, is
+    /// damaged or has a commit that is none of these tables, or an assertion is false on its rows; or there is no
+    /// memory.
+    pub fn on_journal(
+        alloc: Global,
+        definitions: &[u8],
+        limit: u64,
+        file: &[u8],
+    ) -> Result<Database, Response>
+        requires within { limit ≤ 4294967295 }
+        ensures begun { IfOk result (spec.IsBegunOn definitions.now limit file.now) }
+        ensures refused { IfErr result (spec.IsUnopened definitions.now file.now) }
+    {
+        match admit_text(alloc, definitions) {
+            Ok(view) => Database::on_tables(alloc, definitions, &view, limit, file),
+            Err(refusal) => Err(refusal_response(Source::Definitions, refusal)),
+        }
+    }
+
+    /// The same of what the definitions define.
+    fn on_tables(
+        alloc: Global,
+        definitions: &[u8],
+        declared: &View,
+        limit: u64,
+        file: &[u8],
+    ) -> Result<Database, Response>
+        requires within { limit ≤ 4294967295 }
+        ensures begun { IfOk result (spec.IsBegunOver definitions.now declared.now limit file.now) }
+        ensures refused { IfErr result (spec.IsUnopened definitions.now file.now) }
+    {
+        match read_head(definitions, file) {
+            Ok((header, base)) => {
+                Database::behind_header(alloc, file, base, header.first, declared, limit)
+            }
+            Err(why) => Err(unrestored_response(why)),
+        }
+    }
+
+    /// The same of a file behind its header of so many bytes.
+    fn behind_header(
+        alloc: Global,
+        file: &[u8],
+        base: usize,
+        first: u64,
+        declared: &View,
+        limit: u64,
+    ) -> Result<Database, Response>
+        requires within { limit ≤ 4294967295 }
+        requires behind { base ≤ length file.now }
+        ensures begun { IfOk result (spec.IsBegunBehind file.now base first declared.now limit) }
+        ensures refused { IfErr result spec.IsFault }
+    {
+        match open_sharing(alloc, file, base, first, declared, limit) {
+            Ok(ledger) => {
+                let Ledger { engine, writer } = ledger;
+                Ok(Database {
+                    kept: KeptEngine::kept_by(engine, writer),
+                    sessions: Sessions::new(alloc),
+                    statements: Statements::new(alloc),
+                })
+            }
+            Err(fault) => Err(open_fault_response(base, fault)),
+        }
+    }
+
+    /// The beginning of a journal of these definitions and of the committed tables.
+    pub fn image(&self, alloc: Global, definitions: &[u8]) -> Response
+        ensures { calls.ShowsImage definitions.now self.now self.now result }
+    {
+        match self.spell_image(alloc, definitions) {
+            Ok(image) => Response::Image(image),
+            Err(_) => refusal_response(Source::Rules, Refusal::NoMemory),
+        }
+    }
+
+    fn spell_image(&self, alloc: Global, definitions: &[u8]) -> Result<Text, AllocError>
+        ensures { IfOk result (λ image. image ≡ calls.image_of definitions.now self.now) }
+    {
+        let Some(number) = self.kept.commit_count() else {
+            return Err(AllocError);
+        };
+        let newest = self.kept.engine().core().newest();
+        let lines = spell_image(alloc, definitions, newest, number)?;
+        Text::new(Vec::from_slice(alloc, lines.as_slice())?)
+    }
+
+    /// Hands out the calls on the journal's file that wait, where they fit into the buffer: what to write of all
+    /// commits that have counted, and a sync. None waits then. Their length is in `len`.
+    pub fn take_calls(&mut self, buf: &mut [u8], len: &mut usize) -> Taken
+        ensures { spec.AreTaken self.old self.new buf.old buf.new len.new result }
+    {
+        match self.kept.sync() {
+            Ok(()) => self.hand_out(buf, len),
+            Err(_) => {
+                *len = 0;
+                Taken::NotKept
+            }
+        }
+    }
+
+    /// The same of the calls that wait as they are.
+    fn hand_out(&mut self, buf: &mut [u8], len: &mut usize) -> Taken
+        ensures { spec.AreHanded self.old.kept self.old self.new buf.old buf.new len.new result }
+    {
+        let waiting = self.kept.waiting();
+        *len = waiting.len();
+        if waiting.len() > buf.len() {
+            return Taken::TooLong;
+        }
+        write_over(waiting, buf);
+        self.kept.forget_waiting();
+        Taken::Whole
+    }
+}

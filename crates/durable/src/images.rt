@@ -1,0 +1,53 @@
+//! The image of a journal: the rows that the tables hold.
+
+ghost use Rattle.std.specs.Prelude.{◌≡◌, ◌++◌, map, IfOk, OnOk};
+ghost use Rattle.assertion.specs.Declarations.{layouts_in};
+ghost use Rattle.durable.specs.Images.{image_from, insertion_of};
+
+use delta::View;
+use mvrows::Rows;
+use std::alloc::{AllocError, Global};
+use table::{Change, Row};
+use value::Value;
+
+/// The changes that put each row of these tables into tables without rows.
+pub fn image_of(alloc: Global, view: &View) -> Result<Vec<Change>, AllocError>
+    ensures { IfOk result (λ image. image.items ≡ image_from (layouts_in view.now.declared) 0 view.now.state) }
+{
+    let mut image = Vec::new(alloc);
+    for table in 0..view.catalog().len() {
+        push_rows(&mut image, table, view.key_column(table), view.rows(table))?;
+    }
+    Ok(image)
+}
+
+/// The changes that put rows into a table.
+fn push_rows(
+    image: &mut Vec<Change>,
+    table: usize,
+    key: usize,
+    rows: &Rows,
+) -> Result<(), AllocError>
+    ensures { OnOk result (image.new.items ≡ image.old.items ++ map (insertion_of table key) rows.now) }
+{
+    for row in rows.iter() {
+        image.push(insertion_of(table, key, row)?)?;
+    }
+    Ok(())
+}
+
+/// The change that puts a row into a table.
+fn insertion_of(table: usize, key: usize, row: &Row) -> Result<Change, AllocError>
+    ensures { IfOk result (λ change. change ≡ insertion_of table key row.now) }
+{
+    let key = match row.values().get(key) {
+        Some(value) => value.copy()?,
+        None => Value::Null,
+    };
+    Ok(Change {
+        table,
+        key,
+        old: None,
+        new: Some(row.copy()?),
+    })
+}

@@ -1,0 +1,4 @@
+pub mod Calls
+pub mod Since
+pub mod Waiting
+pub mod Files

@@ -1,0 +1,33 @@
+//! Why the SQL was not printed.
+
+ghost use Rattle.std.specs.Prelude.{◌≡◌};
+ghost use Rattle.sqlite_text.specs.declared.faults.PrintFault.TheVariants.{NoMemory};
+
+use std::alloc::AllocError;
+use thiserror::Error;
+use value::Text;
+
+/// Why the SQL was not printed whole.
+#[derive(Debug, Drop, Error)]
+pub enum PrintFault {
+    /// SQLite keeps the names of tables that begin with `sqlite_`, in any case, for itself. Nothing was written.
+    #[error("the table {name} has a name that SQLite keeps for itself")]
+    ReservedName { name: Text },
+    /// SQLite takes at most 2000 columns in a table. Nothing was written.
+    #[error("the table {name} has more than the 2000 columns that SQLite takes")]
+    ManyColumns { name: Text },
+    /// No memory was left. What the writer took before stands.
+    #[error("no memory is left")]
+    NoMemory,
+    /// The writer failed. Of the bytes that went out before nothing is known.
+    #[error("the output can't be written")]
+    Output,
+}
+
+impl From<AllocError> for PrintFault {
+    ghost from_gives = { λ _ fault. fault ≡ NoMemory };
+
+    fn from(_error: AllocError) -> PrintFault {
+        PrintFault::NoMemory
+    }
+}

@@ -1,0 +1,3 @@
+A: BEGIN;
+A: INSERT INTO T VALUES ('ÅÄÖÅÄÖÅÄÖÅÄÖ');
+A: COMMIT;

@@ -1,0 +1,3 @@
+A: BEGIN;
+A: INSERT INTO ACCT VALUES (2, 'José', -6);
+A: ROLLBACK;

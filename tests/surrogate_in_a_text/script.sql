@@ -1,0 +1,2 @@
+A: BEGIN; -- ÿ
+A: DELETE FROM ACCT WHERE OWNER = 'Ã©í €';
