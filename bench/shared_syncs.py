@@ -1,17 +1,22 @@
 #!/usr/bin/env python3
-"""Commits a second of threads that share a manager with a journal from Python, and of as many connections of SQLite.
+"""Commits a second of threads that share a manager with a journal from Python, and of as many connections of SQLite and
+of PostgreSQL.
 
     SKEWGUARD_LIBRARY=LIBRARY PYTHONPATH=FOLDER python3 bench/shared_syncs.py [--commits 4000] [--repetitions 5]
         [--folder FOLDER]
 
 LIBRARY is a libskewguard.so, and FOLDER has the package skewguard with its extension. A transaction is one UPDATE of a
 row by its key under a rule by groups, made in one call; each thread has rows of its own. SQLite has a write-ahead log
-and synchronous=FULL. The sides take turns on one disk, and the table that docs/PERFORMANCE.md holds is printed, of
+and synchronous=FULL. PostgreSQL has fsync and synchronous_commit, its clients are those of pgbench, over a socket, with
+prepared statements, and its transactions are serializable; where there is no server there are dashes. Neither of the
+two keeps the rule. The sides take turns on one disk, and the table that docs/PERFORMANCE.md holds is printed, of
 medians.
 """
 
 import argparse
+import contextlib
 import pathlib
+import re
 import sqlite3
 import statistics
 import sys
@@ -23,18 +28,19 @@ import skewguard
 
 sys.path.insert(0, str(pathlib.Path(__file__).resolve().parents[1] / "tools"))
 
-from harness import loads
+from harness import loads, servers
 from harness.measures import table
 
 ROWS = 1024
 THREADS = 1, 4, 16
 UPDATE = "UPDATE ACCT SET BAL = BAL + 1 WHERE ID = ?"
+OWN = ROWS // max(THREADS)
+DURABLE = {"fsync": "on", "synchronous_commit": "on", "full_page_writes": "on"}
 
 
 def keys_of(thread, commits):
     """Keys of a thread's own, each of another owner than the one before it."""
-    own = ROWS // max(THREADS)
-    return (own * thread + at * loads.MEMBERS % own for at in range(commits))
+    return (OWN * thread + at * loads.MEMBERS % OWN for at in range(commits))
 
 
 def seconds_of(work, threads):
@@ -73,22 +79,56 @@ def timed_sqlite(folder, threads, commits):
     return seconds_of(work, threads)
 
 
+@contextlib.contextmanager
+def postgresql(folder):
+    """A server with the accounts, on the same disk; None where there is none."""
+    if not servers.server_programs():
+        yield None
+        return
+    with tempfile.TemporaryDirectory(dir=folder) as data:
+        server = servers.Server(data, DURABLE)
+        try:
+            rows = pathlib.Path(data) / "accounts.sql"
+            rows.write_text("".join([loads.ACCT, *loads.inserts("ACCT", loads.accounts(ROWS))]), encoding="utf-8")
+            server.run("psql", "-Xq", "-h", data, "-U", "postgres", "-f", str(rows), "postgres")
+            key = f"\\set id :client_id * {OWN} + random(0, {OWN - 1})"
+            update = UPDATE.replace("?", ":id")
+            (pathlib.Path(data) / "update.sql").write_text(f"{key}\n{update};\n", encoding="utf-8")
+            yield server
+        finally:
+            server.stop()
+
+
+def timed_postgresql(server, threads, commits):
+    clients = ["-c", str(threads), "-j", str(threads), "-t", str(commits // threads)]
+    where = ["-h", server.folder, "-U", "postgres", "-f", f"{server.folder}/update.sql", "postgres"]
+    told = server.run("pgbench", "-n", "-M", "prepared", *clients, *where)
+    return commits / float(re.search(r"^tps = ([\d.]+) \(without", told, re.MULTILINE)[1])
+
+
 def main():
     parser = argparse.ArgumentParser(description=__doc__.split("\n", 1)[0])
     parser.add_argument("--commits", type=int, default=4000)
     parser.add_argument("--repetitions", type=int, default=5)
     parser.add_argument("--folder", default=None)
     words = parser.parse_args()
-    rows = []
-    for threads in THREADS:
-        seconds = {timed_skewguard: [], timed_sqlite: []}
-        for _ in range(words.repetitions):
-            for timed, each in seconds.items():
-                with tempfile.TemporaryDirectory(dir=words.folder) as folder:
-                    each.append(timed(pathlib.Path(folder), threads, words.commits))
-        rates = (words.commits / statistics.median(each) for each in seconds.values())
-        rows.append([str(threads), *(f"{rate:,.0f}" for rate in rates)])
-    table(["threads", "skewguard with a journal", "SQLite, WAL, FULL"], rows)
+    with postgresql(words.folder) as server:
+        rows = [row_of(threads, server, words) for threads in THREADS]
+    table(["threads", "skewguard with a journal", "SQLite, WAL, FULL", "PostgreSQL, synchronous_commit"], rows)
+
+
+def row_of(threads, server, words):
+    """The rates of so many threads."""
+    sides = [timed_skewguard, timed_sqlite]
+    seconds = [[] for _ in range(3)]
+    for _ in range(words.repetitions):
+        for each, timed in zip(seconds, sides):
+            with tempfile.TemporaryDirectory(dir=words.folder) as folder:
+                each.append(timed(pathlib.Path(folder), threads, words.commits))
+        if server:
+            seconds[2].append(timed_postgresql(server, threads, words.commits))
+    rates = (f"{words.commits / statistics.median(each):,.0f}" if each else "-" for each in seconds)
+    return [str(threads), *rates]
 
 
 if __name__ == "__main__":

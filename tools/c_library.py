@@ -30,7 +30,7 @@ FILE = "libskewguard.so.0.1.0"
 JOURNAL = TOP / "bindings" / "c" / "journal.c"
 PROVED = tuple(f"skewguard_library_{name}" for name in ("open", "call", "close", "draw", "open_journal", "take_calls"))
 EXPORTS = (*PROVED, *(f"skewguard_journal_{name}" for name in (
-    "open", "call", "close", "start", "take", "make", "made", "failure")))
+    "open", "call", "checkpoint", "checkpoint_bytes", "close", "start", "take", "make", "made", "failure")))
 
 
 def run(*words, folder=None):

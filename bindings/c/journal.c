@@ -12,6 +12,7 @@
 #include <fcntl.h>
 #include <limits.h>
 #include <stdint.h>
+#include <stdio.h>
 #include <stdlib.h>
 #include <string.h>
 #include <sys/file.h>
@@ -20,22 +21,38 @@
 
 #include "skewguard.h"
 
-/* So many zeros stand behind a new file, so many are written at a time, and so long are the calls that wait mostly. */
-enum { ROOM = 1 << 20, BLOCK = 1 << 16, CALLS = 4096 };
+/* So many zeros stand behind a new file, so many are written at a time, so long are the calls that wait mostly, and so
+ * long may commits be until a checkpoint is made, unless another length is set. */
+enum { ROOM = 1 << 20, BLOCK = 1 << 16, CALLS = 4096, COMMITS = 16 << 20 };
 
 /* The calls that the library hands out, by their first number. */
 enum { CALL_WRITE = 1, CALL_ZEROS = 2, CALL_SYNC = 3 };
 
 enum { NUMBER = 8 };
 
+/* A name in a folder, which is open, so that it stays the same one whatever becomes of the process's own folder. */
+typedef struct Place {
+    int folder;
+    char name[NAME_MAX + 1];
+    /* What a file is called until it has the name. */
+    char draft[NAME_MAX + 1];
+} Place;
+
 typedef struct Journal {
     void *library;
+    Place place;
     /* -1 where the definitions were refused before there was one. */
     int file;
     /* The errno of the first call that failed; 0 as long as none did. Nothing more is answered behind one. */
     int error;
     unsigned char *calls;
     size_t capacity, length;
+    /* The text of the definitions, which a new file begins with the sum of. */
+    unsigned char *definitions;
+    size_t definitions_length;
+    /* Where the image ends in the file, and the lines of all commits that were written; how long the commits may be
+     * until a checkpoint is made, 0 for any length; and where the lines are too long by that. */
+    uint64_t image, end, most, longest;
 } Journal;
 
 /* -- calls on a file: each gives 0, or an errno */
@@ -71,61 +88,78 @@ static int write_zeros(int file, uint64_t place, uint64_t count)
     return 0;
 }
 
-static int sync_folder(const char *path)
+/* Moves an open file off the standard streams: nothing that is meant for one of those may land in it. */
+static int keep_off_streams(int *file)
 {
-    char name[PATH_MAX];
+    int moved, error;
+    if (*file > 2)
+        return 0;
+    moved = fcntl(*file, F_DUPFD_CLOEXEC, 3);
+    error = errno;
+    close(*file);
+    *file = moved;
+    return moved < 0 ? error : 0;
+}
+
+/* The place of a path. Its folder is open then, or -1. */
+static int find_place(const char *path, Place *place)
+{
+    char folder[PATH_MAX];
     const char *end = strrchr(path, '/');
+    const char *name = end ? end + 1 : path;
     size_t length = end ? (size_t)(end - path) + (end == path) : 0;
-    int folder, error;
-    if (length >= sizeof name)
+    place->folder = -1;
+    if (length >= sizeof folder || strlen(name) + sizeof ".new" > sizeof place->draft)
         return ENAMETOOLONG;
-    memcpy(name, path, length);
-    name[length] = '\0';
-    folder = open(length ? name : ".", O_RDONLY | O_CLOEXEC | O_DIRECTORY);
-    if (folder < 0)
-        return errno;
-    error = fsync(folder) ? errno : 0;
-    close(folder);
-    return error;
+    if (!*name)
+        return *path ? EISDIR : ENOENT;
+    strcpy(place->name, name);
+    strcpy(place->draft, name);
+    strcat(place->draft, ".new");
+    memcpy(folder, path, length);
+    folder[length] = '\0';
+    place->folder = open(length ? folder : ".", O_RDONLY | O_CLOEXEC | O_DIRECTORY);
+    return place->folder < 0 ? errno : keep_off_streams(&place->folder);
+}
+
+static int sync_folder(const Place *place)
+{
+    return fsync(place->folder) ? errno : 0;
 }
 
 /* Whether the file of this name is the one that is open. */
-static int is_named(int file, const char *path)
+static int is_named(int file, const Place *place, const char *name)
 {
     struct stat found, named;
-    return !fstat(file, &found) && !lstat(path, &named) && found.st_dev == named.st_dev
-        && found.st_ino == named.st_ino;
+    return !fstat(file, &found) && !fstatat(place->folder, name, &named, AT_SYMLINK_NOFOLLOW)
+        && found.st_dev == named.st_dev && found.st_ino == named.st_ino;
 }
 
-/* Locks a file that was opened by this name. Nothing that is meant for a standard stream may land in it. */
-static int lock(int *file, const char *path)
+/* Locks a file that was opened by this name. */
+static int lock(int *file, const Place *place, const char *name)
 {
     struct stat found;
-    if (*file <= 2) {
-        int moved = fcntl(*file, F_DUPFD_CLOEXEC, 3);
-        int error = errno;
-        close(*file);
-        *file = moved;
-        if (moved < 0)
-            return error;
-    }
+    int error = keep_off_streams(file);
+    if (error)
+        return error;
     if (fstat(*file, &found))
         return errno;
     if (!S_ISREG(found.st_mode))
         return S_ISDIR(found.st_mode) ? EISDIR : ENOTSUP;
     if (flock(*file, LOCK_EX | LOCK_NB))
         return errno;
-    return is_named(*file, path) ? 0 : EWOULDBLOCK;
+    return is_named(*file, place, name) ? 0 : EWOULDBLOCK;
 }
 
-static int open_locked(const char *path, int flags, int *file)
+/* One that is made has this mode. */
+static int open_locked(const Place *place, const char *name, int flags, mode_t mode, int *file)
 {
     int error;
     /* (a pipe is opened without waiting for its other end, and then refused) */
-    *file = open(path, flags | O_RDWR | O_NOFOLLOW | O_NONBLOCK | O_CLOEXEC, 0666);
+    *file = openat(place->folder, name, flags | O_RDWR | O_NOFOLLOW | O_NONBLOCK | O_CLOEXEC, mode);
     if (*file < 0)
         return errno;
-    error = lock(file, path);
+    error = lock(file, place, name);
     if (error && *file >= 0)
         close(*file);
     return error;
@@ -140,32 +174,63 @@ static uint64_t number_at(const unsigned char *bytes)
     return number;
 }
 
+typedef struct Call {
+    uint64_t kind, place, length;
+    const unsigned char *bytes;
+} Call;
+
+/* The call that begins at *at, and *at is behind it then; 0 where there is none. */
+static int next_call(const unsigned char **at, const unsigned char *end, Call *call)
+{
+    if (end - *at < NUMBER)
+        return 0;
+    call->kind = number_at(*at);
+    call->place = call->length = 0;
+    *at += NUMBER;
+    if (call->kind == CALL_SYNC)
+        return 1;
+    if (end - *at < 2 * NUMBER)
+        return 0;
+    call->place = number_at(*at);
+    call->length = number_at(*at + NUMBER);
+    call->bytes = *at += 2 * NUMBER;
+    if (call->kind == CALL_ZEROS)
+        return 1;
+    if (call->kind != CALL_WRITE || call->length > (uint64_t)(end - *at))
+        return 0;
+    *at += call->length;
+    return 1;
+}
+
+static int make_call(int file, const Call *call)
+{
+    if (call->kind == CALL_SYNC)
+        return fdatasync(file) ? errno : 0;
+    if (call->kind == CALL_ZEROS)
+        return write_zeros(file, call->place, call->length);
+    return write_all(file, call->bytes, (size_t)call->length, call->place);
+}
+
 /* Makes the calls in these bytes, in their order. */
 static int make_calls(int file, const unsigned char *at, const unsigned char *end)
 {
+    Call call;
     int error = 0;
-    while (!error && end - at >= NUMBER) {
-        uint64_t kind = number_at(at), place, length;
-        at += NUMBER;
-        if (kind == CALL_SYNC) {
-            error = fdatasync(file) ? errno : 0;
-            continue;
-        }
-        if (end - at < 2 * NUMBER)
-            return EINVAL;
-        place = number_at(at);
-        length = number_at(at + NUMBER);
-        at += 2 * NUMBER;
-        if (kind == CALL_ZEROS) {
-            error = write_zeros(file, place, length);
-        } else if (kind == CALL_WRITE && length <= (uint64_t)(end - at)) {
-            error = write_all(file, at, (size_t)length, place);
-            at += length;
-        } else {
-            return EINVAL;
-        }
-    }
+    while (!error && at != end)
+        error = next_call(&at, end, &call) ? make_call(file, &call) : EINVAL;
     return error;
+}
+
+/* Where the lines end once the calls are made that were taken. */
+static uint64_t end_behind(const Journal *journal)
+{
+    const unsigned char *at = journal->calls, *end = at + journal->length;
+    uint64_t lines = journal->end;
+    Call call;
+    while (next_call(&at, end, &call))
+        if (call.kind == CALL_WRITE && call.place + call.length > lines)
+            lines = call.place + call.length;
+    return lines;
 }
 
 int skewguard_journal_take(void *made)
@@ -187,6 +252,7 @@ int skewguard_journal_take(void *made)
         journal->length = 0;
         journal->error = ENOMEM;
     }
+    journal->end = end_behind(journal);
     return journal->length != 0;
 }
 
@@ -196,9 +262,9 @@ int skewguard_journal_make(const void *made)
     return journal->length ? make_calls(journal->file, journal->calls, journal->calls + journal->length) : 0;
 }
 
-int skewguard_journal_made(void *made, int error)
+/* Notes what became of calls: the first errno there was. */
+static int note(Journal *journal, int error)
 {
-    Journal *journal = made;
     if (!journal->error)
         journal->error = error;
     return journal->error;
@@ -208,7 +274,7 @@ int skewguard_journal_made(void *made, int error)
 static int settle(Journal *journal)
 {
     skewguard_journal_take(journal);
-    return skewguard_journal_made(journal, skewguard_journal_make(journal));
+    return note(journal, skewguard_journal_make(journal));
 }
 
 /* Gives memory back that only the calls behind an opening needed. */
@@ -242,45 +308,67 @@ static int32_t reply_of(void *library, uint32_t operation, const unsigned char *
     }
 }
 
-/* Puts a file with these bytes and zeros behind them where there is none, under its name only once it is on the disk.
- * PATH.new is what it is called until then. */
-static int make_file(const char *path, const unsigned char *bytes, size_t length)
+/* Takes a draft away that a killed process left; one that a process is making is locked. */
+static int remove_draft(const Place *place)
 {
-    char draft[PATH_MAX];
-    int file, error;
-    if (strlen(path) > sizeof draft - 5)
-        return ENAMETOOLONG;
-    strcpy(draft, path);
-    strcat(draft, ".new");
-    /* (one that a killed process left is taken away; one that a process is making is locked) */
-    error = open_locked(draft, 0, &file);
-    if (!error) {
-        error = unlink(draft) ? errno : 0;
-        close(file);
-    }
-    if (error && error != ENOENT)
-        return error;
-    error = open_locked(draft, O_CREAT | O_EXCL, &file);
+    int file, error = open_locked(place, place->draft, 0, 0, &file);
+    if (error)
+        return error == ENOENT ? 0 : error;
+    error = unlinkat(place->folder, place->draft, 0) ? errno : 0;
+    close(file);
+    return error;
+}
+
+static int copy_mode(int from, int to)
+{
+    struct stat found;
+    return fstat(from, &found) || fchmod(to, found.st_mode & 07777) ? errno : 0;
+}
+
+/* Makes a file with these bytes, and so many zeros behind them, which is on the disk then. It has no name but the
+ * draft's, and none at all where an errno is given. Those may read it that may read the old one, where there is one;
+ * else old is -1. */
+static int make_draft(const Place *place, int old, const unsigned char *bytes, size_t length, uint64_t zeros,
+                      int *file)
+{
+    int error = remove_draft(place);
+    if (!error)
+        error = open_locked(place, place->draft, O_CREAT | O_EXCL, old < 0 ? 0666 : 0600, file);
     if (error)
         return error;
-    error = write_zeros(file, length, ROOM);
+    error = old < 0 ? 0 : copy_mode(old, *file);
     if (!error)
-        error = write_all(file, bytes, length, 0);
-    if (!error && fsync(file))
+        error = write_zeros(*file, length, zeros);
+    if (!error)
+        error = write_all(*file, bytes, length, 0);
+    if (!error && fsync(*file))
         error = errno;
-    /* (a link fails where one came meanwhile, and a rename would take its place) */
-    if (!error && link(draft, path))
+    if (error) {
+        unlinkat(place->folder, place->draft, 0);
+        close(*file);
+    }
+    return error;
+}
+
+/* Puts a file with these bytes and zeros behind them where there is none. */
+static int make_file(const Place *place, const unsigned char *bytes, size_t length)
+{
+    int file, error = make_draft(place, -1, bytes, length, ROOM, &file);
+    if (error)
+        return error;
+    /* (a link fails where a file came meanwhile, and a rename would take its place) */
+    if (linkat(place->folder, place->draft, place->folder, place->name, 0))
         error = errno;
-    if (unlink(draft) && !error)
+    if (unlinkat(place->folder, place->draft, 0) && !error)
         error = errno;
     if (!error)
-        error = sync_folder(path);
+        error = sync_folder(place);
     close(file);
     return error;
 }
 
 /* Makes the journal of these definitions, where they are taken in. Where they are not, `library` has the refusal. */
-static int32_t make_journal(const char *path, const unsigned char *request, size_t length, void **library, int *error)
+static int32_t make_journal(const Place *place, const unsigned char *request, size_t length, void **library, int *error)
 {
     unsigned char *reply = NULL;
     size_t reply_length = 0;
@@ -296,7 +384,7 @@ static int32_t make_journal(const char *path, const unsigned char *request, size
     skewguard_library_close(*library);
     *library = NULL;
     if (status == SKEWGUARD_DONE && reply_length > 1 + NUMBER) {
-        *error = make_file(path, reply + 1 + NUMBER, reply_length - 1 - NUMBER);
+        *error = make_file(place, reply + 1 + NUMBER, reply_length - 1 - NUMBER);
         status = *error ? SKEWGUARD_IO_ERROR : SKEWGUARD_DONE;
     } else {
         status = SKEWGUARD_NO_MEMORY;
@@ -308,11 +396,11 @@ static int32_t make_journal(const char *path, const unsigned char *request, size
 /* -- an open one */
 
 /* The bytes of a file, all of which are on the disk. */
-static int read_synced(const char *path, int file, unsigned char **bytes, size_t *length)
+static int read_synced(const Place *place, int file, unsigned char **bytes, size_t *length)
 {
     struct stat found;
     size_t size, at = 0;
-    int error = sync_folder(path);
+    int error = sync_folder(place);
     if (error)
         return error;
     if (fsync(file) || fstat(file, &found))
@@ -335,64 +423,109 @@ static int read_synced(const char *path, int file, unsigned char **bytes, size_t
     return 0;
 }
 
+/* Behind the next line feed; at the end where there is none. */
+static const unsigned char *behind_line(const unsigned char *at, const unsigned char *end)
+{
+    const unsigned char *found = memchr(at, '\n', (size_t)(end - at));
+    return found ? found + 1 : end;
+}
+
+/* Sets where the lines become too long, by how long the commits behind the image may be. */
+static void set_longest(Journal *journal)
+{
+    uint64_t commits = journal->most > journal->image ? journal->most : journal->image;
+    journal->longest = journal->most ? journal->image + commits : UINT64_MAX;
+}
+
+/* Notes where the image ends, which is the third line, behind the header and an empty one, and where all lines do,
+ * behind which there are zeros. */
+static void measure(Journal *journal, const unsigned char *bytes, size_t length)
+{
+    const unsigned char *end = bytes + length, *zeros = memchr(bytes, 0, length);
+    journal->image = (uint64_t)(behind_line(behind_line(behind_line(bytes, end), end), end) - bytes);
+    journal->end = (uint64_t)((zeros ? zeros : end) - bytes);
+    set_longest(journal);
+}
+
 /* Opens the library on the file that is there. */
-static int32_t open_there(const char *path, const unsigned char *request, size_t length, Journal *journal)
+static int32_t open_there(const unsigned char *request, size_t length, Journal *journal)
 {
     unsigned char *bytes = NULL;
     size_t file_length = 0;
     int32_t status;
-    int error = read_synced(path, journal->file, &bytes, &file_length);
+    int error = read_synced(&journal->place, journal->file, &bytes, &file_length);
     if (error) {
         free(bytes);
         journal->error = error;
         return error == ENOMEM ? SKEWGUARD_NO_MEMORY : SKEWGUARD_IO_ERROR;
     }
     status = skewguard_library_open_journal(request, length, bytes, file_length, &journal->library);
+    if (!status && settle(journal))
+        status = SKEWGUARD_IO_ERROR;
+    else if (status)
+        status = SKEWGUARD_NO_MEMORY;
+    /* (settled, since the calls behind an opening write zeros behind the lines) */
+    measure(journal, bytes, file_length);
     free(bytes);
-    if (status)
-        return SKEWGUARD_NO_MEMORY;
-    if (settle(journal))
-        return SKEWGUARD_IO_ERROR;
     give_back(journal);
-    return SKEWGUARD_DONE;
+    return status;
 }
 
 static int32_t open_journal(const char *path, const unsigned char *request, size_t length, Journal *journal)
 {
     int32_t status;
-    journal->error = open_locked(path, 0, &journal->file);
+    journal->error = find_place(path, &journal->place);
+    if (journal->error)
+        return SKEWGUARD_IO_ERROR;
+    journal->error = open_locked(&journal->place, journal->place.name, 0, 0, &journal->file);
     if (journal->error == ENOENT) {
         journal->file = -1;
         journal->error = 0;
-        status = make_journal(path, request, length, &journal->library, &journal->error);
+        status = make_journal(&journal->place, request, length, &journal->library, &journal->error);
         if (status || journal->library)
             return status;
-        journal->error = open_locked(path, 0, &journal->file);
+        journal->error = open_locked(&journal->place, journal->place.name, 0, 0, &journal->file);
     }
     if (journal->error) {
         journal->file = -1;
         return SKEWGUARD_IO_ERROR;
     }
-    return open_there(path, request, length, journal);
+    return open_there(request, length, journal);
+}
+
+/* A journal that is not open yet, with the definitions of a request; null without memory. */
+static Journal *new_journal(const unsigned char *request, size_t length)
+{
+    Journal *journal = calloc(1, sizeof *journal);
+    if (!journal)
+        return NULL;
+    journal->file = journal->place.folder = -1;
+    journal->most = COMMITS;
+    journal->longest = UINT64_MAX;
+    journal->capacity = CALLS;
+    journal->calls = malloc(journal->capacity);
+    journal->definitions = malloc(length);
+    if (!journal->calls || !journal->definitions) {
+        skewguard_journal_close(journal);
+        return NULL;
+    }
+    journal->definitions_length = length - NUMBER;
+    memcpy(journal->definitions, request + NUMBER, journal->definitions_length);
+    return journal;
 }
 
 int32_t skewguard_journal_open(const char *path, const unsigned char *request, size_t length, void **made, int *error)
 {
     int32_t status;
-    Journal *journal = calloc(1, sizeof *journal);
+    Journal *journal;
     *made = NULL;
     *error = 0;
+    if (!path || length < NUMBER)
+        return SKEWGUARD_BAD_REQUEST;
+    journal = new_journal(request, length);
     if (!journal)
         return SKEWGUARD_NO_MEMORY;
-    journal->file = -1;
-    journal->capacity = CALLS;
-    journal->calls = malloc(journal->capacity);
-    if (!journal->calls)
-        status = SKEWGUARD_NO_MEMORY;
-    else if (!path || length < NUMBER)
-        status = SKEWGUARD_BAD_REQUEST;
-    else
-        status = open_journal(path, request, length, journal);
+    status = open_journal(path, request, length, journal);
     if (status != SKEWGUARD_DONE) {
         *error = journal->error;
         skewguard_journal_close(journal);
@@ -400,6 +533,87 @@ int32_t skewguard_journal_open(const char *path, const unsigned char *request, s
     }
     *made = journal;
     return status;
+}
+
+/* -- a checkpoint */
+
+/* Gives a draft of these bytes the name, and goes on in it. Where the library does not take it for the image of its
+ * tables, nothing has changed; behind that an errno is also that of all calls from then on, since it is not known which
+ * of the two files has the name. */
+static int go_on_in(Journal *journal, int file, const unsigned char *bytes, size_t length)
+{
+    unsigned char reply[64];
+    size_t reply_length;
+    int old = journal->file, error;
+    if (skewguard_library_call(journal->library, SKEWGUARD_DO_MOVE, bytes, length, reply, sizeof reply, &reply_length)
+        != SKEWGUARD_DONE) {
+        unlinkat(journal->place.folder, journal->place.draft, 0);
+        close(file);
+        return ENOMEM;
+    }
+    journal->file = file;
+    error = settle(journal);
+    if (!error && renameat(journal->place.folder, journal->place.draft, journal->place.folder, journal->place.name))
+        error = errno;
+    if (!error)
+        error = sync_folder(&journal->place);
+    close(old);
+    journal->image = journal->end = length;
+    return note(journal, error);
+}
+
+/* Puts this beginning of a journal in the place of the file. */
+static int replace_file(Journal *journal, const unsigned char *bytes, size_t length)
+{
+    int file, error = make_draft(&journal->place, journal->file, bytes, length, 0, &file);
+    return error ? error : go_on_in(journal, file, bytes, length);
+}
+
+int skewguard_journal_checkpoint(void *made)
+{
+    Journal *journal = made;
+    unsigned char *reply = NULL;
+    size_t length = 0;
+    int32_t status;
+    int error = settle(journal);
+    if (error)
+        return error;
+    status = reply_of(journal->library, SKEWGUARD_DO_IMAGE, journal->definitions, journal->definitions_length, &reply,
+                      &length);
+    if (status == SKEWGUARD_DONE && length > 1 + NUMBER)
+        error = replace_file(journal, reply + 1 + NUMBER, length - 1 - NUMBER);
+    else
+        error = ENOMEM;
+    free(reply);
+    set_longest(journal);
+    return error;
+}
+
+/* Makes a checkpoint where the commits have become long. One that fails is tried again when they are as long again: the
+ * file goes on. */
+static void shorten(Journal *journal)
+{
+    if (journal->error || journal->end <= journal->longest)
+        return;
+    if (skewguard_journal_checkpoint(journal))
+        journal->longest = journal->end + (journal->most > journal->image ? journal->most : journal->image);
+}
+
+void skewguard_journal_checkpoint_bytes(void *made, uint64_t bytes)
+{
+    Journal *journal = made;
+    journal->most = bytes;
+    set_longest(journal);
+}
+
+/* -- calls */
+
+int skewguard_journal_made(void *made, int error)
+{
+    Journal *journal = made;
+    if (!note(journal, error))
+        shorten(journal);
+    return journal->error;
 }
 
 size_t skewguard_journal_failure(int error, unsigned char *reply, size_t capacity)
@@ -426,7 +640,11 @@ int32_t skewguard_journal_call(void *made, uint32_t operation, const unsigned ch
                                unsigned char *reply, size_t capacity, size_t *reply_length)
 {
     Journal *journal = made;
-    int32_t status = skewguard_journal_start(made, operation, request, length, reply, capacity, reply_length);
+    int32_t status;
+    /* (what the last call was answered is the library's to give again until the next one) */
+    if (operation != SKEWGUARD_DO_AGAIN && operation != SKEWGUARD_DO_LINE)
+        shorten(journal);
+    status = skewguard_journal_start(made, operation, request, length, reply, capacity, reply_length);
     if (!settle(journal))
         return status;
     *reply_length = skewguard_journal_failure(journal->error, reply, capacity);
@@ -442,6 +660,9 @@ void skewguard_journal_close(void *made)
         skewguard_library_close(journal->library);
     if (journal->file >= 0)
         close(journal->file);
+    if (journal->place.folder >= 0)
+        close(journal->place.folder);
     free(journal->calls);
+    free(journal->definitions);
     free(journal);
 }

@@ -31,7 +31,7 @@ EXAMPLES = "on-call", "ledger", "booking"
 PROGRAMS = "calls", "threads", "journal", "replay"
 
 # The calls on the file of a journal, each of which a test lets fail.
-WRAPPED = tuple(f"-Wl,--wrap={name}" for name in ("pwrite", "fdatasync", "fsync", "link", "unlink"))
+WRAPPED = tuple(f"-Wl,--wrap={name}" for name in ("pwrite", "fdatasync", "fsync", "linkat", "unlinkat", "renameat"))
 SANITIZERS = "-fsanitize=address,undefined", "-fno-sanitize-recover=all"
 WARNINGS = "-Wall", "-Wextra", "-pedantic", "-Werror"
 LANGUAGES = ("-x", "c", "-std=c99"), ("-x", "c++", "-std=c++11")

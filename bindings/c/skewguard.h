@@ -66,8 +66,8 @@ extern "C" {
  * | | and of each its number, how many values, and these | |
  * | 15 a transaction: BEGIN; where that is done, what 14 does, and COMMIT; or ROLLBACK, where a statement is | | |
  * | not done, or COMMIT finds no memory or is not kept | as 14 | several |
- * | 16 the beginning of a journal's file for the committed tables, by the text of their definitions | the text's bytes |
- * | | | image |
+ * | 16 the beginning of a journal's file for the committed tables, by their definitions | the text's bytes | image |
+ * | 17 the commits go on in another file of the journal, which holds what 16 gave | the file's bytes | opened |
  *
  * The status of 0 and 1 is that of the call whose response it was, and that of several replies the status of the first
  * that tells of something not done. Of several, 1 gives several: the line of each.
@@ -135,11 +135,19 @@ int32_t skewguard_library_take_calls(void *library, unsigned char *buffer, size_
  * of is on the disk. SKEWGUARD_IO_ERROR, and *error is the errno: EWOULDBLOCK where another process has the file, ELOOP
  * a link, EISDIR a folder, ENOTSUP what is no regular file. After a call that failed nothing is answered any more but
  * SKEWGUARD_IO_ERROR, with the kind misused and the errno: open the file again.
+ *
+ * Where the commits behind the image have become longer than 16 MiB, and than the image, a checkpoint is made in front
+ * of the next call: an image of the committed tables takes the file's place. checkpoint_bytes sets the 16 MiB; 0, and
+ * none is made. checkpoint makes one now, whatever is open: 0, or an errno, and all goes on in the old file, unless the
+ * calls behind it are answered with an errno too. A checkpoint that was not asked for and can't be made is left for
+ * when the file is as much longer. Behind one, operation 0 gives none of the replies before it.
  */
 int32_t skewguard_journal_open(const char *path, const unsigned char *request, size_t length, void **journal,
                                int *error);
 int32_t skewguard_journal_call(void *journal, uint32_t operation, const unsigned char *request, size_t length,
                                unsigned char *reply, size_t capacity, size_t *reply_length);
+int skewguard_journal_checkpoint(void *journal);
+void skewguard_journal_checkpoint_bytes(void *journal, uint64_t bytes);
 void skewguard_journal_close(void *journal);
 
 /*
@@ -148,7 +156,8 @@ void skewguard_journal_close(void *journal);
  * yet. take takes over the calls on the file that wait, of all commits that have counted; 0 where there are none. make
  * makes them, and gives 0 or an errno; made notes that, and gives the first errno there was. Behind it each reply of a
  * call that was started before take may be handed on, or, where made gives an errno, none may: then failure writes the
- * reply that says so, and gives its length, 0 where it does not fit.
+ * reply that says so, and gives its length, 0 where it does not fit. made also makes a checkpoint that is due, and no
+ * thread may be between take and made while skewguard_journal_checkpoint is called.
  */
 int32_t skewguard_journal_start(void *journal, uint32_t operation, const unsigned char *request, size_t length,
                                 unsigned char *reply, size_t capacity, size_t *reply_length);
@@ -191,7 +200,7 @@ typedef enum skewguard_status {
     /* A COMMIT that is accepted and could not be kept in the journal (58030): its transaction is open, nothing has
      * changed. */
     SKEWGUARD_NOT_KEPT = 12,
-    /* A checkpoint of what keeps a journal: `skewguard checkpoint` changes the rules of one that is closed. */
+    /* Other rules for what keeps a journal: `skewguard checkpoint` changes those of one that is closed. */
     SKEWGUARD_JOURNALED = 13,
     /* The file was not opened as a journal: reply.journal_fault says why. */
     SKEWGUARD_UNRESTORED = 14
@@ -368,7 +377,8 @@ static inline skewguard_status skewguard_open(skewguard *db, const char *definit
  * The same with a journal in the file of this name: what is committed outlives the process, and a crash at any moment
  * loses no commit that was answered. Where there is no file it is made, with the rows of the definitions; else the
  * tables are those that it holds, and the rows of the definitions are passed over. No other process opens it meanwhile.
- * Each COMMIT waits for the disk. A checkpoint is refused (JOURNALED).
+ * Each COMMIT waits for the disk. Where the commits in the file become longer than 16 MiB, and than the rows at its
+ * beginning, a checkpoint of the file is made by itself (skewguard_checkpoint_bytes).
  *
  * As skewguard_open; IO_ERROR with an errno in reply.number, and nothing is open: EWOULDBLOCK where another process has
  * the file, ELOOP where it is a link, EISDIR a folder, ENOTSUP no regular file; UNRESTORED with reply.journal_fault,
@@ -472,9 +482,18 @@ static inline skewguard_status skewguard_report(skewguard *db);
  * BAD_NAME where a name in dropped is none. REFUSED with 15 while a transaction is open; with 3 a name that no rule
  * has, or that a new rule uses and no table or column has; with 2, 4, 5, 18 to 22 a rule that is not taken in. Nothing
  * has changed then. NO_MEMORY, CLOSED, BAD_REQUEST; REPLY_WAITS, and the rules are changed.
+ *
+ * With a journal its file becomes short first, also where a transaction is open: an image of the committed tables takes
+ * its place. IO_ERROR with an errno in reply.number where that can't be, as on a full disk: the file goes on as it is,
+ * unless the calls behind this one are answered so too. JOURNALED where rules are dropped or created: a journal is of
+ * one text of definitions, and `skewguard checkpoint` takes another for a file that is closed.
  */
 static inline skewguard_status skewguard_checkpoint(skewguard *db, const char *created, size_t length,
                                                     const skewguard_text *dropped, size_t count);
+
+/* How long the commits in a journal's file may be, in bytes, until a checkpoint of the file is made by itself, unless
+ * the rows at its beginning are longer: 16 MiB if nothing is said; 0, and none is made. Nothing without a journal. */
+static inline void skewguard_checkpoint_bytes(skewguard *db, uint64_t bytes);
 
 /* ---- replies */
 
@@ -541,7 +560,8 @@ enum skewguard_operation {
     SKEWGUARD_DO_CHECKPOINT = 13,
     SKEWGUARD_DO_RUN_ALL = 14,
     SKEWGUARD_DO_TRANSACT = 15,
-    SKEWGUARD_DO_IMAGE = 16
+    SKEWGUARD_DO_IMAGE = 16,
+    SKEWGUARD_DO_MOVE = 17
 };
 
 static inline skewguard_value skewguard_null(void)
@@ -602,7 +622,7 @@ static inline const char *skewguard_status_text(skewguard_status status)
     case SKEWGUARD_NOT_KEPT:
         return "the commit could not be kept in the journal: its transaction is open";
     case SKEWGUARD_JOURNALED:
-        return "a database that keeps a journal makes no checkpoint";
+        return "the rules of a journal can't be changed while it is open";
     case SKEWGUARD_UNRESTORED:
         return "the file was not opened as a journal";
     }
@@ -1302,6 +1322,18 @@ static inline skewguard_status skewguard_draw(skewguard *db, skewguard_role role
     return (skewguard_status)status;
 }
 
+/* Puts an image in the place of the journal's file. */
+static inline skewguard_status skewguard_shorten(skewguard *db)
+{
+    int error = skewguard_journal_checkpoint(db->journal);
+    if (!error)
+        return SKEWGUARD_DONE;
+    skewguard_clear_reply(db);
+    db->reply.kind = SKEWGUARD_MISUSED;
+    db->reply.number = (uint64_t)error;
+    return SKEWGUARD_IO_ERROR;
+}
+
 static inline skewguard_status skewguard_checkpoint(skewguard *db, const char *created, size_t length,
                                                     const skewguard_text *dropped, size_t count)
 {
@@ -1321,7 +1353,18 @@ static inline skewguard_status skewguard_checkpoint(skewguard *db, const char *c
         if (!skewguard_add_value(db, &value))
             return skewguard_give(db, SKEWGUARD_NO_MEMORY);
     }
+    if (db->journal && !length && !count) {
+        status = skewguard_shorten(db);
+        if (status != SKEWGUARD_DONE)
+            return status;
+    }
     return skewguard_call(db, SKEWGUARD_DO_CHECKPOINT);
+}
+
+static inline void skewguard_checkpoint_bytes(skewguard *db, uint64_t bytes)
+{
+    if (db && db->journal)
+        skewguard_journal_checkpoint_bytes(db->journal, bytes);
 }
 
 #ifdef __cplusplus

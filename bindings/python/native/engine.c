@@ -143,6 +143,14 @@ int engine_keep(Engine *engine)
     return engine->failure;
 }
 
+int engine_shorten(Engine *engine)
+{
+    while (engine->is_syncing)
+        pthread_cond_wait(&engine->synced, &engine->lock);
+    /* (others may have closed it meanwhile) */
+    return engine->handle && engine->library->checkpoint ? engine->library->checkpoint(engine->handle) : 0;
+}
+
 void *engine_take(Engine *engine)
 {
     void *handle = engine->handle;

@@ -37,6 +37,9 @@ typedef struct Library {
     int (*take)(void *handle);
     int (*make)(const void *handle);
     int (*made)(void *handle, int error);
+    /* Of one that keeps a journal (skewguard_journal_checkpoint and _checkpoint_bytes). */
+    int (*checkpoint)(void *handle);
+    void (*checkpoint_bytes)(void *handle, uint64_t bytes);
 } Library;
 
 /* The functions of the shared library, once it was found. */
@@ -111,6 +114,10 @@ void engine_unlock(Engine *engine);
 /* Waits until all that was told so far is on the disk: 0, or the errno for which it may not be. One thread syncs for
  * all that wait, and lets the lock go meanwhile. */
 int engine_keep(Engine *engine);
+
+/* Puts an image in the place of a journal's file, while no thread syncs: 0, or the errno for which it is as it was. 0
+ * without a journal too. */
+int engine_shorten(Engine *engine);
 
 /* Waits until nothing more has to be kept, and takes the handle away. */
 void *engine_take(Engine *engine);

@@ -218,6 +218,42 @@ static PyObject *engine_call(PyObject *self, PyObject *args)
     return answer;
 }
 
+/* _shorten(): puts an image in the place of a journal's file. */
+static PyObject *engine_shorten_method(PyObject *self, PyObject *nothing)
+{
+    EngineObject *it = (EngineObject *)self;
+    PyThreadState *thread;
+    int32_t status;
+    int error;
+    (void)nothing;
+    if (!may_call(it))
+        return NULL;
+    status = enter(it);
+    if (status) {
+        raise_status(status, NULL, NULL);
+        return NULL;
+    }
+    thread = it->thread; /* as in `leave` */
+    error = engine_shorten(&it->engine);
+    engine_unlock(&it->engine);
+    PyEval_RestoreThread(thread);
+    if (error)
+        raise_io_error(error);
+    return error ? NULL : none();
+}
+
+/* _set_checkpoint_bytes(bytes): how long the commits in a journal's file may become. It is new, and nobody calls it. */
+static PyObject *engine_set_checkpoint_bytes(PyObject *self, PyObject *args)
+{
+    Engine *engine = &((EngineObject *)self)->engine;
+    unsigned long long bytes;
+    if (!PyArg_ParseTuple(args, "K", &bytes))
+        return NULL;
+    if (engine->library->checkpoint_bytes)
+        engine->library->checkpoint_bytes(engine->handle, bytes);
+    return none();
+}
+
 static PyObject *engine_close(PyObject *self, PyObject *nothing)
 {
     EngineObject *it = (EngineObject *)self;
@@ -292,6 +328,8 @@ static PyMethodDef engine_methods[] = {
      "    one. 256 transactions may be open at once, and one more is an OperationalError (number 24)."},
     {"_call", engine_call, METH_VARARGS, NULL},
     {"_transact", engine_transact_method, METH_VARARGS, NULL},
+    {"_shorten", engine_shorten_method, METH_NOARGS, NULL},
+    {"_set_checkpoint_bytes", engine_set_checkpoint_bytes, METH_VARARGS, NULL},
     {"close", engine_close, METH_NOARGS,
      "Gives the memory back. Open transactions are lost. Later calls raise InterfaceError, but for this one."},
     {NULL, NULL, 0, NULL},

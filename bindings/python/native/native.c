@@ -60,10 +60,14 @@ static PyObject *load(PyObject *module, PyObject *args)
         || !find(file, "skewguard_journal_take", &there.journaled.take)
         || !find(file, "skewguard_journal_make", &there.journaled.make)
         || !find(file, "skewguard_journal_made", &there.journaled.made)
+        || !find(file, "skewguard_journal_checkpoint", &there.journaled.checkpoint)
+        || !find(file, "skewguard_journal_checkpoint_bytes", &there.journaled.checkpoint_bytes)
         || !find(file, "skewguard_journal_close", &there.journaled.close)) {
         dlclose(file);
         return NULL;
     }
+    there.traced.checkpoint = there.journaled.checkpoint;
+    there.traced.checkpoint_bytes = there.journaled.checkpoint_bytes;
     there.traced.close = there.journaled.close;
     found = there;
     return none();

@@ -150,6 +150,20 @@ size_t skewguard_journal_failure(int error, unsigned char *reply, size_t capacit
     return failure(error, reply, capacity);
 }
 
+int skewguard_journal_checkpoint(void *journal)
+{
+    int (*checkpoint)(void *);
+    *(void **)&checkpoint = found("skewguard_journal_checkpoint");
+    return checkpoint(journal);
+}
+
+void skewguard_journal_checkpoint_bytes(void *journal, uint64_t bytes)
+{
+    void (*checkpoint_bytes)(void *, uint64_t);
+    *(void **)&checkpoint_bytes = found("skewguard_journal_checkpoint_bytes");
+    checkpoint_bytes(journal, bytes);
+}
+
 void skewguard_journal_close(void *journal)
 {
     void (*close)(void *);

@@ -26,15 +26,18 @@ ROUNDS = 25
 ROWS = 100
 THREADS = 8
 
-# Commits one row after the other, and prints the number of each once its commit is answered.
+# Commits one row after the other, and prints the number of each once its commit is answered. After so many bytes of
+# commits, the second word, comes a checkpoint, and after 50 commits a new epoch.
 WRITER = f"""
 import sys
 import skewguard
 
-manager = skewguard.open({LEDGER!r}, journal=sys.argv[1])
+manager = skewguard.open({LEDGER!r}, journal=sys.argv[1], checkpoint_bytes=int(sys.argv[2]), max_commits=60)
 first = len(manager.run(lambda t: t.execute("SELECT * FROM ENTRY WHERE OWNER = 'KIM'")))
 for number in range(first, first + 100_000):
     manager.run(lambda t: t.execute({INSERT!r}, [number, "KIM", 1]))
+    if number % 50 == 0:
+        manager.checkpoint()
     sys.stdout.write(f"{{number}}\\n")
     sys.stdout.flush()
 """
@@ -105,11 +108,11 @@ class JournalTest(unittest.TestCase):
         """However it ends, as many rows are there as were answered, or the one more that was being committed."""
         kept = 0
         chance = random.Random(58)
-        for _ in range(ROUNDS):
-            words = [sys.executable, "-c", WRITER, str(self.path)]
+        for turn in range(ROUNDS):
+            words = [sys.executable, "-c", WRITER, str(self.path), str((0, 100, 2**24)[turn % 3])]
             writer = subprocess.Popen(words, stdout=subprocess.PIPE, text=True)
             try:
-                told = [writer.stdout.readline() for _ in range(chance.randrange(1, 40))]
+                told = [writer.stdout.readline() for _ in range(chance.randrange(1, 80))]
             finally:
                 writer.send_signal(signal.SIGKILL)
                 told += writer.communicate()[0].splitlines(keepends=True)
@@ -135,6 +138,82 @@ class JournalTest(unittest.TestCase):
                     call()
         with skewguard.open(LEDGER, journal=self.path) as manager:
             self.assertIn(len(rows(manager)) - 1, (answered, answered + ROWS))
+
+    def test_checkpoint(self):
+        """The file is short, and the epoch a new one; the rules stay as they are."""
+        with skewguard.open(LEDGER, journal=self.path, max_commits=3) as manager:
+            for number in range(3):
+                insert(manager, number)
+            with self.assertRaises(skewguard.EpochFull):
+                insert(manager, 3)
+            self.assertGreater(self.path.stat().st_size, 2**20)
+            self.assertEqual(manager.checkpoint().splitlines()[0], "COMMITS 3")
+            self.assertLess(self.path.stat().st_size, 2**10)
+            insert(manager, 3)
+            more = "CREATE ASSERTION MORE CHECK ((SELECT COUNT(*) FROM ENTRY) >= 0);"
+            for change in ({"create": more}, {"drop": ["COVERED"]}):
+                with self.assertRaises(skewguard.OperationalError) as caught:
+                    manager.checkpoint(**change)
+                self.assertIn("can't be changed while it is open", str(caught.exception))
+        with skewguard.open(LEDGER, journal=self.path) as manager:
+            self.assertEqual(len(rows(manager)), 5)
+
+    def test_checkpoint_beside_a_transaction(self):
+        """It makes the file short, the epoch goes on, and so does the transaction."""
+        with skewguard.open(LEDGER, journal=self.path) as manager:
+            insert(manager, 1)
+            with manager.transaction() as t:
+                t.execute(INSERT, [2, "KIM", 1])
+                with self.assertRaises(skewguard.ProgrammingError) as caught:
+                    manager.checkpoint()
+                self.assertEqual(caught.exception.number, 15)
+                self.assertLess(self.path.stat().st_size, 2**10)
+        with skewguard.open(LEDGER, journal=self.path) as manager:
+            self.assertEqual(len(rows(manager)), 3)
+
+    def test_checkpoints_by_themselves(self):
+        with skewguard.open(LEDGER, journal=self.path, checkpoint_bytes=100) as manager:
+            with manager.transaction() as t:
+                t.execute(INSERT, [0, "KIM", 1])
+                for number in range(1, 60):
+                    insert(manager, number % 5 + 1, "LEE")
+                    manager.run(lambda t: t.execute("DELETE FROM ENTRY WHERE OWNER = 'LEE'"))
+        self.assertLess(len(self.lines()), 10)
+        for wrong in (-1, 2**62):
+            with self.assertRaises(ValueError):
+                skewguard.open(LEDGER, journal=self.path, checkpoint_bytes=wrong)
+        for wrong in ("1", 1.0, True):
+            with self.assertRaises(TypeError):
+                skewguard.open(LEDGER, journal=self.path, checkpoint_bytes=wrong)
+        with skewguard.open(LEDGER, journal=self.path, checkpoint_bytes=0) as manager:
+            self.assertEqual(rows(manager), [(0, "KIM", 1), (1000, "Žofie", 5)])
+
+    def test_checkpoint_on_a_full_disk(self):
+        """None is made then, and the manager goes on."""
+        with skewguard.open(LEDGER, journal=self.path) as manager:
+            for number in range(30):
+                insert(manager, number)
+            with full_disk(100), self.assertRaises(skewguard.JournalError) as caught:
+                manager.checkpoint()
+            self.assertEqual(caught.exception.errno, 27)
+            insert(manager, 30)
+        self.assertEqual(os.listdir(self.path.parent), [self.path.name])
+        with skewguard.open(LEDGER, journal=self.path) as manager:
+            self.assertEqual(len(rows(manager)), 32)
+
+    def test_checkpoint_from_another_folder(self):
+        """The file is the one in the folder in which it was opened."""
+        before = os.getcwd()
+        os.chdir(self.path.parent)
+        try:
+            manager = skewguard.open(LEDGER, journal=self.path.name)
+            os.chdir(before)
+            insert(manager, 1)
+            manager.checkpoint()
+            manager.close()
+        finally:
+            os.chdir(before)
+        self.assertLess(self.path.stat().st_size, 2**10)
 
     def insert_from_threads(self, manager):
         """Threads commit side by side, up to the first error of each: the rows that were acknowledged, and errors."""
@@ -169,6 +248,28 @@ class JournalTest(unittest.TestCase):
         with skewguard.open(LEDGER, journal=self.path) as manager:
             self.assertLessEqual(set(acknowledged), {row[0] for row in rows(manager)})
 
+    def test_checkpoints_under_threads(self):
+        with skewguard.open(LEDGER, journal=self.path, checkpoint_bytes=1) as manager:
+            stop = threading.Event()
+
+            def ask():
+                while not stop.is_set():
+                    try:
+                        manager.checkpoint()
+                    except skewguard.ProgrammingError:
+                        pass  # a transaction is open
+
+            asking = threading.Thread(target=ask)
+            asking.start()
+            try:
+                acknowledged, errors = self.insert_from_threads(manager)
+            finally:
+                stop.set()
+                asking.join()
+            self.assertEqual(errors, [])
+        with skewguard.open(LEDGER, journal=self.path) as manager:
+            self.assertLessEqual(set(acknowledged), {row[0] for row in rows(manager)})
+
     @unittest.skipUnless(native, "over ctypes each call syncs by itself")
     def test_threads_share_syncs(self):
         for _ in range(10):  # whether they meet is chance
@@ -195,9 +296,10 @@ class JournalTest(unittest.TestCase):
         with skewguard.open(LEDGER, journal=self.path) as manager:
             with self.fault(errno=11) as error:
                 self.assertIn("another process has the journal open", str(error))
-            with self.assertRaises(skewguard.OperationalError):
-                manager.checkpoint()
             insert(manager, 1)
+            manager.checkpoint()
+            with self.fault(errno=11):
+                pass
             child = os.fork()
             if not child:
                 try:

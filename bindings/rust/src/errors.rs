@@ -197,7 +197,8 @@ pub enum Error {
     Ended,
     /// A journal can't be opened, or a call on its file failed.
     Journal(JournalFault),
-    /// The manager keeps a journal, and makes no checkpoint: `skewguard checkpoint` makes one of its file.
+    /// The manager keeps a journal, and its rules can't be changed: `skewguard checkpoint` changes those of a file that
+    /// is closed.
     Journaled,
     /// The library is another one than this crate was written for.
     OtherLibrary {
@@ -312,7 +313,7 @@ impl fmt::Display for Error {
             Error::BadRuleName => write!(to, "a name to drop is that of no rule: {NAMES}"),
             Error::Ended => to.write_str("the transaction has ended"),
             Error::Journal(fault) => fault.fmt(to),
-            Error::Journaled => to.write_str("a manager that keeps a journal makes no checkpoint"),
+            Error::Journaled => to.write_str("the rules of a journal can't be changed while it is open"),
             Error::NameTaken { name } => write!(to, "the manager handed the session {name} out by itself"),
             Error::OtherLibrary { layout } => {
                 write!(to, "the library has the layout {layout}: it is another one than this crate was written for")

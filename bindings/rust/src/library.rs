@@ -60,6 +60,8 @@ extern "C" {
     fn skewguard_journal_take(journal: *mut c_void) -> c_int;
     fn skewguard_journal_make(journal: *const c_void) -> c_int;
     fn skewguard_journal_made(journal: *mut c_void, error: c_int) -> c_int;
+    fn skewguard_journal_checkpoint(journal: *mut c_void) -> c_int;
+    fn skewguard_journal_checkpoint_bytes(journal: *mut c_void, bytes: u64);
     fn skewguard_journal_close(journal: *mut c_void);
 }
 
@@ -263,6 +265,26 @@ impl Library {
         self.waiting.failure = unsafe { skewguard_journal_made(self.handle, error) };
         self.waiting.is_syncing = false;
         self.waiting.kept = calls;
+    }
+
+    /// Puts an image in the place of a journal's file, while no thread syncs.
+    pub fn shorten(&mut self) -> Result<(), Error> {
+        if self.keeping == Keeping::Nowhere {
+            return Ok(());
+        }
+        // SAFETY: the handle is an open journal's, `&mut self` keeps other calls away, and no thread syncs.
+        match unsafe { skewguard_journal_checkpoint(self.handle) } {
+            0 => Ok(()),
+            errno => Err(Error::Journal(JournalFault::File { errno })),
+        }
+    }
+
+    /// How long the commits in a journal's file may become.
+    pub fn set_checkpoint_bytes(&mut self, bytes: u64) {
+        if self.keeping != Keeping::Nowhere {
+            // SAFETY: the handle is an open journal's, and `&mut self` keeps other calls away.
+            unsafe { skewguard_journal_checkpoint_bytes(self.handle, bytes) }
+        }
     }
 
     /// Why nothing may be told any more.

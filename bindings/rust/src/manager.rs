@@ -39,6 +39,7 @@ pub struct Manager {
 #[derive(Default)]
 pub struct Options {
     journal: Option<PathBuf>,
+    checkpoint_bytes: Option<u64>,
     max_commits: Option<u32>,
     trace: Option<Trace>,
 }
@@ -54,6 +55,13 @@ impl Options {
     /// of the definitions are passed over. No other process may have it open.
     pub fn journal(mut self, path: impl Into<PathBuf>) -> Options {
         self.journal = Some(path.into());
+        self
+    }
+
+    /// Where the commits in the journal's file become longer than that, and than the rows in front of them, an image of
+    /// the newest rows takes the file's place by itself; 0: never. Without this it is 16 MiB.
+    pub fn checkpoint_bytes(mut self, most: u64) -> Options {
+        self.checkpoint_bytes = Some(most);
         self
     }
 
@@ -74,7 +82,10 @@ impl Options {
     /// its file can't be opened, is damaged or of other definitions.
     pub fn open(self, definitions: &str) -> Result<Manager, Error> {
         let max_commits = self.max_commits.unwrap_or(MAX_COMMITS);
-        let library = Library::open(definitions, self.journal.as_deref(), max_commits, self.trace)?;
+        let mut library = Library::open(definitions, self.journal.as_deref(), max_commits, self.trace)?;
+        if let Some(most) = self.checkpoint_bytes {
+            library.set_checkpoint_bytes(most);
+        }
         Ok(Manager { library: Mutex::new(library), synced: Condvar::new() })
     }
 }
@@ -105,7 +116,14 @@ impl Manager {
     /// history is given back. Refused while a transaction is open
     /// ([`Fault::TransactionOpen`](crate::Fault::TransactionOpen)), and for what [`open`](Manager::open) is refused
     /// for; nothing has changed then.
+    ///
+    /// With a journal an image of the newest rows takes the place of its file first, also where a transaction is open.
+    /// Where that can't be, as on a full disk, it is [`Error::Journal`], and the manager goes on with the file as it
+    /// is. No assertion is dropped or created then ([`Error::Journaled`]).
     pub fn checkpoint(&self, create: &str, drop: &[&str]) -> Result<String, Error> {
+        if create.is_empty() && drop.is_empty() {
+            self.shorten()?;
+        }
         self.ask(|library| library.checkpoint(create, drop))
     }
 
@@ -137,6 +155,15 @@ impl Manager {
             None => answer,
             Some(error) => Err(error.into()),
         }
+    }
+
+    /// Puts an image in the place of the journal's file, if there is a journal.
+    fn shorten(&self) -> Result<(), Error> {
+        let mut library = self.library();
+        while library.is_syncing() {
+            library = self.synced.wait(library).unwrap_or_else(PoisonError::into_inner);
+        }
+        library.shorten()
     }
 
     /// Syncs for all calls so far, without the lock.

@@ -26,6 +26,7 @@ pub enum Operation {
     RunAll = 14,
     Transact = 15,
     Image = 16,
+    Move = 17,
 }
 
 /// What became of a call.

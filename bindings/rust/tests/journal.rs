@@ -60,7 +60,7 @@ fn what_is_committed_is_there_again() {
     let mut lost = manager.begin().unwrap();
     lost.execute("DELETE FROM ENTRY", &[]).unwrap();
     drop(lost);
-    assert_eq!(manager.checkpoint("", &[]), Err(Error::Journaled));
+    assert_eq!(manager.checkpoint("", &["COVERED"]), Err(Error::Journaled));
     assert_eq!(ledger.fault(LEDGER), JournalFault::File { errno: 11 });
     drop(manager);
     for count in 2..5 {
@@ -68,6 +68,35 @@ fn what_is_committed_is_there_again() {
         assert_eq!(rows(&manager), count);
         insert(&manager, count as i64);
     }
+}
+
+#[test]
+fn a_checkpoint_makes_the_file_short() {
+    let ledger = Ledger::new("checkpoint");
+    let length = || fs::metadata(&ledger.0).unwrap().len();
+    let manager = ledger.open().unwrap();
+    insert(&manager, 1);
+    let open = manager.begin().unwrap();
+    let refused = manager.checkpoint("", &[]).unwrap_err();
+    assert!(matches!(refused, Error::Refused(ref it) if it.fault == Fault::TransactionOpen), "{refused:?}");
+    assert!(length() < 1 << 10);
+    insert(&manager, 2);
+    drop(open);
+    assert!(length() > 1 << 20);
+    assert!(manager.checkpoint("", &[]).unwrap().starts_with("COMMITS 2\n"));
+    assert!(length() < 1 << 10);
+    drop(manager);
+    let manager = Options::new().journal(&ledger.0).checkpoint_bytes(100).open(LEDGER).unwrap();
+    std::thread::scope(|scope| {
+        for first in 3..7 {
+            let manager = &manager;
+            let owner = format!("T{first}");
+            scope.spawn(move || (first..100).step_by(4).for_each(|number| insert_of(manager, number, &owner)));
+        }
+    });
+    drop(manager);
+    assert!(lines(&ledger).len() < 90);
+    assert_eq!(rows(&ledger.open().unwrap()), 100);
 }
 
 #[test]

@@ -1,5 +1,5 @@
 -- An engine and its journal go on together.
-use Rattle.std.proofs.Common.{◌≡◌, ℕ, Bool, true, false, List, Option, Some, None, Result, Ok, Err, length, refl, sym, subst, inl, inr}
+use Rattle.std.proofs.Common.{◌≡◌, ◌+◌, ℕ, Bool, true, false, List, Option, Some, None, Result, Ok, Err, length, refl, sym, ap, subst, inl, inr}
 use Rattle.std.specs.Prelude.{IfOk, OnErr, OnOk, is_some, slice_get, if◌then◌else◌, ⊤}
 use Rattle.std.proofs.lemmas.Bool.{false≢true}
 use Rattle.syntax.specs.declared.statements.ScriptLine.{ScriptLine}
@@ -8,15 +8,18 @@ use Rattle.alone.specs.declared.answers.Answer.{Answer}
 use Rattle.alone.specs.declared.answers.Answer.TheVariants.{Begun, Committed, Refused, Replied, RolledBack}
 use Rattle.alone.specs.declared.records.Record.{Record}
 use Rattle.txn.specs.Transactions.{OpenTransaction}
+use Rattle.definitions.specs.declared.redeclaration.NewAssertion.{NewAssertion}
 use Rattle.commit.specs.Cores.{CoreState}
+use Rattle.commit.specs.Epochs.{IsNextEpoch}
 use Rattle.commit.specs.Events.{EngineState, IsAnswered, IsAnsweredAt, after, after_at, core_after, core_without, found_no_memory, rollback_answer, seat_of, takes_memory_at, txn_of, without_seat, without_session}
 use Rattle.commit.specs.Keepers.{IsAskedFor}
 use Rattle.commit.specs.Runs.{seats_with}
 use Rattle.commit.specs.declared.keepers.Unanswered.{Unanswered}
 use Rattle.commit.specs.declared.keepers.Unanswered.TheVariants as unanswered
-use Rattle.durable.specs.Promise.{DidKeep}
+use Rattle.durable.specs.Promise.{DidKeep, IsReadyFor}
+use Rattle.durable.proofs.Flushing as flushing
 use Rattle.journal_file.specs.Files as files
-use Rattle.calls.specs.Keeping.{FileWriter, IsAsked, IsHandled, IsInStep, IsKeptAnswer, IsSeated, writer_with_none_waiting}
+use Rattle.calls.specs.Keeping.{counted_anew, FileWriter, IsAsked, IsHandled, IsInStep, IsKeptAnswer, IsSeated, writer_with_none_waiting}
 
 -- an answer of an engine whose commits are kept
 pub handled_kept : (old new : EngineState) (w v : FileWriter) (line : ScriptLine) (r : Result Answer Unanswered) → IfOk r (IsAnswered old line)
@@ -138,8 +141,11 @@ step_forgotten count (Some w) step = λ is_open.
       next = at.next;
     }
 
--- ---- no journal
+-- ---- a new epoch
 
-pub step_unjournaled : (count : ℕ) (w : Option FileWriter) → is_some w ≡ false → IsInStep count w
-step_unjournaled count None none = tt
-step_unjournaled count (Some w) none = absurd (false≢true (sym none))
+pub step_counted : (before after : CoreState) (dropped : List (List ℕ)) (created : List NewAssertion) (w : Option FileWriter)
+    → IsNextEpoch dropped created before after → IsInStep (length before.records) w → IsInStep (length after.records) (counted_anew w)
+step_counted before after dropped created None next step = tt
+step_counted before after dropped created (Some w) next step =
+    subst (λ (n : ℕ). IsReadyFor files.file_bytes files.file_may_leave (n + 1) (record w { last = w.batch.newest })) (sym (ap (λ (c : CoreState). length c.records) next.empty))
+    (flushing.counted_anew files.file_bytes files.file_may_leave w (length before.records + 1) step)

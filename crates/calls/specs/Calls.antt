@@ -1,5 +1,5 @@
 -- What each call makes of a database, and what it answers.
-use Rattle.std.specs.Prelude.{◌≡◌, ◌⊎◌, ◌++◌, ℕ, Bool, true, false, List, [], ◌∷◌, map, Option, Some, None, Ok, Err, IsSomeAnd}
+use Rattle.std.specs.Prelude.{◌≡◌, ◌⊎◌, ◌++◌, ◌-◌, ◌==◌, ◌&&◌, ℕ, Bool, true, false, not, List, [], ◌∷◌, drop, length, map, Option, Some, None, Ok, Err, IsSomeAnd}
 use Rattle.std.specs.List.{list_all}
 use Rattle.value.specs.declared.refusals.Refusal.{Refusal}
 use Rattle.value.specs.declared.refusals.Refusal.TheVariants as refusal
@@ -26,6 +26,8 @@ use Rattle.commit.specs.declared.keepers.Unanswered.TheVariants as unanswered
 use Rattle.commit.specs.Events.{EngineState, without_session as engine_without}
 use Rattle.commit.specs.Runs.{beginning, seats_with}
 use Rattle.delta.specs.Views.{ViewState}
+use Rattle.journal.specs.declared.headers.Header.{Header}
+use Rattle.journal.specs.Headers.{header_at}
 use Rattle.replay.specs.Reports.{closing_part_of}
 use Rattle.replay.specs.Takings.{IsAdmitted, IsRefused}
 use Rattle.replay.specs.Texts.{IsRead, IsUnread}
@@ -45,11 +47,12 @@ use Rattle.messages.specs.declared.responses.Response.{Response}
 use Rattle.messages.specs.declared.responses.Response.TheVariants as response
 use Rattle.messages.specs.declared.responses.Source.{Source}
 use Rattle.messages.specs.declared.responses.Source.TheVariants as source
+use Rattle.messages.specs.declared.responses.Unrestored.TheVariants as unrestored
 use Rattle.messages.specs.Names.{is_name}
 use Rattle.messages.specs.Requests.{RunFields, checkpoint_request, only_number, run_request}
 use Rattle.calls.specs.declared.databases.Database.{Database}
-use Rattle.calls.specs.Images.{image_file}
-use Rattle.calls.specs.Keeping.{IsKeptAnswer, IsNotKept, commit_count, is_journaled, with_engine}
+use Rattle.durable.specs.Images.{image_file}
+use Rattle.calls.specs.Keeping.{AreMoved, IsKeptAnswer, IsNotKept, commit_count, counted_anew, is_journaled, with_engine}
 use Rattle.calls.specs.Sessions.{has_room, is_named, no_sessions, session_name, with_session, without_session}
 use Rattle.calls.specs.Statements.{no_statements, statement_at, with_statement, without_statement}
 
@@ -327,16 +330,30 @@ pub record IsChanged (dropped : List (List ℕ)) (created : List NewAssertion) (
   pub closed : is_any_open old.kept.engine.seats ≡ false
   pub next : IsNextEpoch dropped created old.kept.engine.core new.kept.engine.core
   pub seats : new.kept.engine.seats ≡ old.kept.engine.seats
-  pub writer : new.kept.writer ≡ old.kept.writer
+  pub writer : new.kept.writer ≡ counted_anew old.kept.writer
   pub sessions : new.sessions ≡ old.sessions
   pub statements : new.statements ≡ old.statements
   pub told : r ≡ response.Changed (closing_part_of old.kept.engine.core)
 
 -- what a checkpoint makes that drops rules of these names and creates these: another epoch, or nothing
-abbrev pub ChangesRules : List (List ℕ) → List NewAssertion → Database → Database → Response → Type 0
-ChangesRules dropped created old new r =
+abbrev pub BeginsEpoch : List (List ℕ) → List NewAssertion → Database → Database → Response → Type 0
+BeginsEpoch dropped created old new r =
     IsWithoutMemory source.Rules old new r ⊎ AreUnchanged dropped created old new r
     ⊎ IsChanged dropped created old new r
+
+-- rules are dropped or created
+abbrev pub changes_any : List (List ℕ) → List NewAssertion → Bool
+changes_any dropped created = not ((length dropped == 0) && (length created == 0))
+
+-- a journal is of the definitions as they stand
+abbrev pub ChangesUnless : (refused : Bool) → List (List ℕ) → List NewAssertion → Database → Database → Response
+    → Type 0
+ChangesUnless true dropped created old new r = IsTold old new r (response.Misused misuse.Journaled)
+ChangesUnless false dropped created old new r = BeginsEpoch dropped created old new r
+
+abbrev pub ChangesRules : List (List ℕ) → List NewAssertion → Database → Database → Response → Type 0
+ChangesRules dropped created old new r =
+    ChangesUnless (is_journaled old.kept && changes_any dropped created) dropped created old new r
 
 -- the same of the rules that a text writes
 pub record ChangesWritten (dropped : List (List ℕ)) (text : List ℕ) (old new : Database) (r : Response) : Type 0 where
@@ -356,16 +373,11 @@ abbrev pub ChangesRead : Option (List ℕ × List Value) → Database → Databa
 ChangesRead None old new r = IsTold old new r (response.Misused misuse.BadRequest)
 ChangesRead (Some fields) old new r = ChangesNamed (names_of fields.1) fields.0 old new r
 
--- the same of a database, unless its commits are kept in a journal
-abbrev pub ChangesUnless : (journaled : Bool) → List ℕ → Database → Database → Response → Type 0
-ChangesUnless true request old new r = IsTold old new r (response.Misused misuse.Journaled)
-ChangesUnless false request old new r =
-    IsWithoutMemory source.Rules old new r ⊎ ChangesRead (checkpoint_request request) old new r
-
 -- what a request for a checkpoint makes, and is told: the first fault decides, in the order of the request's fields,
 -- its names, its text and the rules; and there may be no memory
 abbrev pub Checkpoints : List ℕ → Database → Database → Response → Type 0
-Checkpoints request old new r = ChangesUnless (is_journaled old.kept) request old new r
+Checkpoints request old new r =
+    IsWithoutMemory source.Rules old new r ⊎ ChangesRead (checkpoint_request request) old new r
 
 -- ---- the image
 
@@ -377,6 +389,33 @@ image_of definitions now = image_file definitions (commit_count now.kept) (newes
 abbrev pub ShowsImage : (definitions : List ℕ) → Database → Database → Response → Type 0
 ShowsImage definitions old new r =
     IsWithoutMemory source.Rules old new r ⊎ IsTold old new r (response.Image (image_of definitions old))
+
+-- ---- another file
+
+-- The commits go on in a file that begins with the header of a journal, and has one entry behind it, of the newest
+-- commit.
+pub record IsMoved (file : List ℕ) (old new : Database) (r : Response) : Type 0 where
+  pub header : Header
+  pub body : List ℕ
+  pub read : header_at file ≡ Some (header, body)
+  pub first : header.first ≡ commit_count old.kept
+  pub moved : AreMoved (drop (length file - length body) file) old.kept.writer new.kept.writer
+  pub journaled : is_journaled old.kept ≡ true
+  pub engine : new.kept.engine ≡ old.kept.engine
+  pub same : IsElsewhereSame old new
+  pub told : r ≡ response.Opened
+
+-- why they do not: there is no journal, the file is none, or what stands in it is something else; or there is no memory
+abbrev pub IsUnmoved : (file : List ℕ) → Database → Response → Type 0
+IsUnmoved file old (response.Misused m) = m ≡ misuse.BadRequest
+IsUnmoved file old (response.Unrestored unrestored.Headless) = header_at file ≡ None
+IsUnmoved file old (response.Unrestored (unrestored.Damaged number at)) = is_journaled old.kept ≡ true
+IsUnmoved file old (response.Refused source.Definitions why) = why ≡ refusal.NoMemory
+IsUnmoved file old other = ⊥
+
+-- what a request for it makes, and is told
+abbrev pub MovesTo : (file : List ℕ) → Database → Database → Response → Type 0
+MovesTo file old new r = IsMoved file old new r ⊎ ((new ≡ old) × IsUnmoved file old r)
 
 -- ---- the columns of a SELECT that lists all
 
@@ -443,3 +482,4 @@ IsOperated op.Checkpoint request old new r = Checkpoints request old new r
 IsOperated op.RunAll request old new r = IsTold old new r (response.Misused misuse.BadRequest)
 IsOperated op.Transact request old new r = IsTold old new r (response.Misused misuse.BadRequest)
 IsOperated op.Image request old new r = ShowsImage request old new r
+IsOperated op.Move request old new r = MovesTo request old new r

@@ -1,13 +1,17 @@
 -- A database on a journal.
-use Rattle.std.specs.Prelude.{◌≡◌, ◌≢◌, ◌<◌, ◌≤◌, ◌-◌, ℕ, Bool, true, false, List, ◌++◌, length, drop, Some, None, ⊤}
+use Rattle.std.specs.Prelude.{◌≡◌, ◌≢◌, ◌<◌, ◌≤◌, ◌-◌, ◌⊎◌, ℕ, Bool, true, false, List, ◌++◌, length, drop, Some, None, ⊤}
+use Rattle.value.specs.declared.refusals.Refusal.{Refusal}
 use Rattle.value.specs.declared.refusals.Refusal.TheVariants as refusal
 use Rattle.commit.specs.Events.{EngineState}
 use Rattle.delta.specs.Views.{ViewState}
 use Rattle.replay.specs.Takings.{IsAdmitted}
 use Rattle.journal.specs.declared.headers.Header.{Header}
 use Rattle.journal.specs.Headers.{header_at}
+use Rattle.journal.specs.Recovery.{said}
 use Rattle.journal.specs.Spelling.{sum}
 use Rattle.journal_file.specs.Files.{file_bytes, file_may_leave}
+use Rattle.durable.specs.declared.faults.OpenFault.{OpenFault}
+use Rattle.durable.specs.declared.faults.OpenFault.TheVariants as fault
 use Rattle.durable.specs.Opening as opening
 use Rattle.durable.specs.Promise.{IsReadyFor, entries_in, entries_of}
 use Rattle.messages.specs.declared.responses.Response.{Response}
@@ -16,8 +20,8 @@ use Rattle.messages.specs.declared.responses.Source.TheVariants as source
 use Rattle.messages.specs.declared.responses.Unrestored.{Unrestored}
 use Rattle.messages.specs.declared.responses.Unrestored.TheVariants as unrestored
 use Rattle.calls.specs.declared.databases.Database.{Database}
-use Rattle.calls.specs.Calls.{IsUnbegun}
-use Rattle.calls.specs.Keeping.{AreWritten, FileWriter, IsShut, KeptState, waiting, with_none_waiting}
+use Rattle.calls.specs.Calls.{IsElsewhereSame, IsUnbegun}
+use Rattle.calls.specs.Keeping.{AreMoved, AreWritten, FileWriter, IsShut, KeptState, waiting, with_none_waiting}
 use Rattle.calls.specs.declared.journals.Taken.{Taken}
 use Rattle.calls.specs.declared.journals.Taken.TheVariants as taken
 use Rattle.calls.specs.Sessions.{no_sessions}
@@ -84,20 +88,70 @@ pub record IsBegunOn (definitions : List ℕ) (limit : ℕ) (file : List ℕ) (n
 abbrev pub unrestored_response : Unrestored → Response
 unrestored_response why = response.Unrestored why
 
--- the commits behind the header were not restored, or there was no memory
-abbrev pub IsFault : Response → Type 0
-IsFault (response.Unrestored (unrestored.Damaged number at)) = ⊤
-IsFault (response.Unrestored (unrestored.NotDue number)) = ⊤
-IsFault (response.Refused source.Journal why) = ⊤
-IsFault (response.Refused source.Definitions why) = why ≡ refusal.NoMemory
-IsFault other = ⊥
+-- what is told of a fault: of damage the byte counts from the beginning of the file
+abbrev pub Tells : OpenFault → Response → Type 0
+Tells fault.NoMemory r = r ≡ response.Refused source.Definitions refusal.NoMemory
+Tells fault.Disk r = r ≡ response.Refused source.Definitions refusal.NoMemory
+Tells (fault.Damaged number at) r = (byte : ℕ) × (r ≡ response.Unrestored (unrestored.Damaged number byte))
+Tells (fault.NotDue number) r = r ≡ response.Unrestored (unrestored.NotDue number)
+Tells (fault.False why) r = r ≡ response.Refused source.Journal why
 
--- why there is no database: the definitions, the header, or what stands behind it
+-- the entries behind the header can't be put back, or an assertion is false on what they leave; or there was no memory
+pub record IsUnrestored (file : List ℕ) (base first : ℕ) (declared : ViewState) (r : Response) : Type 0 where
+  pub why : OpenFault
+  pub unopened : opening.IsUnopened declared first (said first (drop base file)) why
+  pub told : Tells why r
+
+-- the file has no header of these definitions
+pub record IsHeadless (definitions file : List ℕ) (r : Response) : Type 0 where
+  pub why : Unrestored
+  pub fault : IsNoHead definitions file why
+  pub told : r ≡ response.Unrestored why
+
+-- it has, and what stands behind it is refused
+pub record IsUnrestoredOver (definitions : List ℕ) (declared : ViewState) (file : List ℕ) (r : Response) : Type 0 where
+  pub header : Header
+  pub base : ℕ
+  pub head : IsHead definitions file header base
+  pub unrestored : IsUnrestored file base header.first declared r
+
+abbrev pub IsUnopenedOver : (definitions : List ℕ) → (declared : ViewState) → (file : List ℕ) → Response → Type 0
+IsUnopenedOver definitions declared file r =
+    IsHeadless definitions file r ⊎ IsUnrestoredOver definitions declared file r
+
+-- the definitions are refused, or there was no memory for them
+pub record AreUnadmitted (definitions : List ℕ) (r : Response) : Type 0 where
+  pub why : Refusal
+  pub unbegun : IsUnbegun definitions why
+  pub told : r ≡ response.Refused source.Definitions why
+
+-- they are admitted, and the file is refused
+pub record IsUnopenedOn (definitions file : List ℕ) (r : Response) : Type 0 where
+  pub shown : ViewState
+  pub admitted : IsAdmitted definitions shown
+  pub unopened : IsUnopenedOver definitions shown file r
+
+-- why there is no database
 abbrev pub IsUnopened : (definitions file : List ℕ) → Response → Type 0
-IsUnopened definitions file (response.Refused source.Definitions why) = IsUnbegun definitions why
-IsUnopened definitions file (response.Unrestored unrestored.Headless) = IsNoHead definitions file unrestored.Headless
-IsUnopened definitions file (response.Unrestored unrestored.OfOthers) = IsNoHead definitions file unrestored.OfOthers
-IsUnopened definitions file other = IsFault other
+IsUnopened definitions file r = AreUnadmitted definitions r ⊎ IsUnopenedOn definitions file r
+
+-- ---- another file
+
+-- behind a header of so many bytes stands something else than the image of the newest commit, or there was no memory
+abbrev pub IsNoImage : Response → Type 0
+IsNoImage (response.Unrestored (unrestored.Damaged number at)) = ⊤
+IsNoImage (response.Refused source.Definitions why) = why ≡ refusal.NoMemory
+IsNoImage other = ⊥
+
+-- a database goes on behind a header of so many bytes, or as it was
+pub record IsMovedBehind (file : List ℕ) (base : ℕ) (old new : Database) (r : Response) : Type 0 where
+  pub moved : AreMoved (drop base file) old.kept.writer new.kept.writer
+  pub engine : new.kept.engine ≡ old.kept.engine
+  pub same : IsElsewhereSame old new
+  pub told : r ≡ response.Opened
+
+abbrev pub MovesBehind : (file : List ℕ) → (base : ℕ) → Database → Database → Response → Type 0
+MovesBehind file base old new r = IsMovedBehind file base old new r ⊎ ((new ≡ old) × IsNoImage r)
 
 -- ---- the calls that wait
 

@@ -11,7 +11,7 @@ use Rattle.commit.specs.declared.keepers.Unanswered.TheVariants as unanswered
 use Rattle.journal_file.specs.declared.files.JournalFile.{JournalFile}
 use Rattle.journal_file.specs.Files as files
 use Rattle.durable.specs.declared.writers.Writer.{Writer}
-use Rattle.durable.specs.Promise.{DidKeep, HasFlushed, IsReadyFor}
+use Rattle.durable.specs.Promise.{DidKeep, HasFlushed, HasMoved, IsReadyFor}
 
 -- who writes commits into a file whose calls wait
 abbrev pub FileWriter : Type 0
@@ -99,6 +99,20 @@ IsShut (Some w) = w.is_shut ≡ true
 abbrev pub IsSynced : {A E : Type 0} → (old : KeptState) → Result A E → (new : KeptState) → Type 0
 IsSynced old (Ok done) new = (new.engine ≡ old.engine) × AreWritten old.writer new.writer
 IsSynced old (Err why) new = (new.engine ≡ old.engine) × IsShut new.writer
+
+-- ---- a new epoch, and another file
+
+-- the commits of a journal are counted from the newest on
+abbrev pub counted_anew : Option FileWriter → Option FileWriter
+counted_anew None = None
+counted_anew (Some w) = Some (record w { last = w.batch.newest })
+
+-- who keeps them goes on in a file of these bytes
+abbrev pub AreMoved : (bytes : List ℕ) → (old new : Option FileWriter) → Type 0
+AreMoved bytes None None = ⊤
+AreMoved bytes None (Some new) = ⊥
+AreMoved bytes (Some old) None = ⊥
+AreMoved bytes (Some old) (Some new) = HasMoved files.file_bytes bytes old new
 
 -- ---- the calls that wait
 

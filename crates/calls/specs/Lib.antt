@@ -1,7 +1,6 @@
 pub mod Sessions
 pub mod Statements
 pub mod Keeping
-pub mod Images
 pub mod Calls
 pub mod Journals
 pub mod Steps

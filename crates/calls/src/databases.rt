@@ -1,11 +1,10 @@
 //! A database with its sessions and its prepared statements.
 
-ghost use Rattle.std.specs.Prelude.{◌≡◌, ◌≤◌, false, IfOk, IfErr};
+ghost use Rattle.std.specs.Prelude.{◌≡◌, ◌≤◌, IfOk, IfErr};
 ghost use Rattle.std.specs.Option.{option_map};
 ghost use Rattle.messages.specs.Requests.{only_number};
 ghost use Rattle.replay.specs.Reports.{closing_part_of};
 ghost use Rattle.calls.specs.Calls as spec;
-ghost use Rattle.calls.specs.Keeping.{is_journaled};
 ghost use Rattle.calls.specs.Serving.{IsServed};
 
 use crate::kept::KeptEngine;
@@ -120,6 +119,13 @@ fn read_rules(alloc: Global, text: &[u8]) -> Result<Vec<NewAssertion>, Refusal>
     Ok(created)
 }
 
+/// Whether rules are dropped or created.
+fn changes_any(dropped: &[Text], created: &[NewAssertion]) -> bool
+    ensures { result ≡ spec.changes_any dropped.now created.now }
+{
+    !(dropped.is_empty() && created.is_empty())
+}
+
 /// The closing part of a report on commits.
 fn closing_part(alloc: Global, core: &Core) -> Result<Text, AllocError>
     ensures { IfOk result (λ text. text ≡ closing_part_of core.now) }
@@ -194,6 +200,7 @@ impl Database {
             Operation::RunAll => Response::Misused(Misuse::BadRequest),
             Operation::Transact => Response::Misused(Misuse::BadRequest),
             Operation::Image => self.image(alloc, request),
+            Operation::Move => self.move_to(alloc, request),
         }
     }
 
@@ -365,13 +372,10 @@ impl Database {
         }
     }
 
-    /// Changes the rules as a request asks, with a new epoch, where no journal has the commits.
+    /// Changes the rules as a request asks, with a new epoch.
     fn checkpoint(&mut self, alloc: Global, request: &[u8]) -> Response
         ensures { spec.Checkpoints request.now self.old self.new result }
     {
-        if self.kept.is_journaled() {
-            return Response::Misused(Misuse::Journaled);
-        }
         match read_checkpoint(alloc, request) {
             Ok((text, values)) => self.drop_and_create(alloc, &values, text),
             Err(fault) => field_fault_response(Source::Rules, fault),
@@ -380,7 +384,6 @@ impl Database {
 
     /// Drops the rules whose names these values are, and creates those of a text.
     fn drop_and_create(&mut self, alloc: Global, values: &[Value], text: &[u8]) -> Response
-        requires alone { is_journaled self.old.kept ≡ false }
         ensures { spec.ChangesNamed (spec.names_of values.now) text.now self.old self.new result }
     {
         let dropped = match read_names(alloc, values) {
@@ -394,16 +397,26 @@ impl Database {
         }
     }
 
-    /// Changes the rules, with a new epoch. The closing part of the one before is made first, so that nothing fails
-    /// behind the change.
+    /// Changes the rules, with a new epoch. A journal begins with the sum of the definitions, so where there is one
+    /// they stay as they are.
     fn change_rules(
         &mut self,
         alloc: Global,
         dropped: &[Text],
         created: &[NewAssertion],
     ) -> Response
-        requires alone { is_journaled self.old.kept ≡ false }
         ensures { spec.ChangesRules dropped.now created.now self.old self.new result }
+    {
+        if self.kept.is_journaled() && changes_any(dropped, created) {
+            return Response::Misused(Misuse::Journaled);
+        }
+        self.begin_epoch(alloc, dropped, created)
+    }
+
+    /// The same where it may. The closing part of the epoch before is made first, so that nothing fails behind the
+    /// change.
+    fn begin_epoch(&mut self, alloc: Global, dropped: &[Text], created: &[NewAssertion]) -> Response
+        ensures { spec.BeginsEpoch dropped.now created.now self.old self.new result }
     {
         let Ok(text) = closing_part(alloc, self.kept.engine().core()) else {
             return refusal_response(Source::Rules, Refusal::NoMemory);

@@ -1,19 +1,20 @@
 //! A database on a journal, whose file its caller has.
 
-ghost use Rattle.std.specs.Prelude.{◌≡◌, ◌≤◌, length, IfErr, IfOk};
+ghost use Rattle.std.specs.Prelude.{◌≡◌, ◌≤◌, drop, length, IfErr, IfOk};
+ghost use Rattle.journal.specs.Recovery.{said};
+ghost use Rattle.durable.specs.Opening.{IsUnopened};
 ghost use Rattle.calls.specs.Calls as calls;
 ghost use Rattle.calls.specs.Journals as spec;
 
 use crate::databases::{Database, refusal_response};
-use crate::images::spell_image;
 use crate::kept::KeptEngine;
 use crate::sessions::Sessions;
 use crate::statements::Statements;
 use delta::View;
-use durable::{Ledger, OpenFault};
+use durable::{Ledger, OpenFault, spell_image};
 use journal::{Header, read_header, sum_of};
 use journal_file::{JournalFile, Outbox};
-use messages::{Response, Source, Unrestored};
+use messages::{Misuse, Response, Source, Unrestored};
 use replay::admit_text;
 use std::alloc::{AllocError, Global};
 use value::{Refusal, Text};
@@ -37,7 +38,7 @@ fn unrestored_response(why: Unrestored) -> Response
 
 /// What is answered where the commits behind a header of so many bytes were not restored.
 fn open_fault_response(base: usize, fault: OpenFault) -> Response
-    ensures { spec.IsFault result }
+    ensures { spec.Tells fault result }
 {
     match fault {
         OpenFault::NoMemory => refusal_response(Source::Definitions, Refusal::NoMemory),
@@ -49,6 +50,19 @@ fn open_fault_response(base: usize, fault: OpenFault) -> Response
         }
         OpenFault::NotDue { number } => unrestored_response(Unrestored::NotDue { number }),
         OpenFault::False(refusal) => refusal_response(Source::Journal, refusal),
+    }
+}
+
+/// What is answered where the commits behind a header of so many bytes do not go on in a file.
+fn unmoved_response(base: usize, fault: OpenFault) -> Response
+    ensures { spec.IsNoImage result }
+{
+    match fault {
+        OpenFault::Damaged { number, at } => {
+            let at = base.saturating_add(at);
+            unrestored_response(Unrestored::Damaged { number, at })
+        }
+        _ => refusal_response(Source::Definitions, Refusal::NoMemory),
     }
 }
 
@@ -81,8 +95,9 @@ fn open_behind(
 ) -> Result<Ledger<JournalFile<Outbox>>, OpenFault>
     requires within { limit ≤ 4294967295 }
     requires behind { base ≤ length file.now }
-    ensures { IfOk result (λ ledger. spec.IsOpenedBehind file.now base first declared.now limit
+    ensures opened { IfOk result (λ ledger. spec.IsOpenedBehind file.now base first declared.now limit
         ledger.engine ledger.writer) }
+    ensures refused { IfErr result (IsUnopened declared.now first (said first (drop base file.now))) }
 {
     let device = JournalFile::of_read(alloc, file).behind(base);
     Ledger::open(alloc, device, &file[base..], first, declared, limit)
@@ -100,8 +115,9 @@ fn open_sharing(
 ) -> Result<Ledger<JournalFile<Outbox>>, OpenFault>
     requires within { limit ≤ 4294967295 }
     requires behind { base ≤ length file.now }
-    ensures { IfOk result (λ ledger. spec.IsOpenedBehind file.now base first declared.now limit
+    ensures opened { IfOk result (λ ledger. spec.IsOpenedBehind file.now base first declared.now limit
         ledger.engine ledger.writer) }
+    ensures refused { IfErr result (IsUnopened declared.now first (said first (drop base file.now))) }
 {
     let mut ledger = open_behind(alloc, file, base, first, declared, limit)?;
     ledger.share_syncs();
@@ -151,7 +167,7 @@ impl Database {
     ) -> Result<Database, Response>
         requires within { limit ≤ 4294967295 }
         ensures begun { IfOk result (spec.IsBegunOver definitions.now declared.now limit file.now) }
-        ensures refused { IfErr result (spec.IsUnopened definitions.now file.now) }
+        ensures refused { IfErr result (spec.IsUnopenedOver definitions.now declared.now file.now) }
     {
         match read_head(definitions, file) {
             Ok((header, base)) => {
@@ -173,7 +189,7 @@ impl Database {
         requires within { limit ≤ 4294967295 }
         requires behind { base ≤ length file.now }
         ensures begun { IfOk result (spec.IsBegunBehind file.now base first declared.now limit) }
-        ensures refused { IfErr result spec.IsFault }
+        ensures refused { IfErr result (spec.IsUnrestored file.now base first declared.now) }
     {
         match open_sharing(alloc, file, base, first, declared, limit) {
             Ok(ledger) => {
@@ -207,6 +223,35 @@ impl Database {
         let newest = self.kept.engine().core().newest();
         let lines = spell_image(alloc, definitions, newest, number)?;
         Text::new(Vec::from_slice(alloc, lines.as_slice())?)
+    }
+
+    /// Goes on in another file, which has the header of a journal and behind it an image of the committed tables under
+    /// the number of the newest commit ([`Database::image`]). All that waited for a sync was handed out before.
+    pub fn move_to(&mut self, alloc: Global, file: &[u8]) -> Response
+        ensures { calls.MovesTo file.now self.old self.new result }
+    {
+        if !self.kept.is_journaled() {
+            return Response::Misused(Misuse::BadRequest);
+        }
+        let Some((header, body)) = read_header(file) else {
+            return unrestored_response(Unrestored::Headless);
+        };
+        if self.kept.commit_count() != Some(header.first) {
+            return Response::Misused(Misuse::BadRequest);
+        }
+        self.move_behind(alloc, file, file.len().saturating_sub(body.len()))
+    }
+
+    /// The same of a file behind its header of so many bytes.
+    fn move_behind(&mut self, alloc: Global, file: &[u8], base: usize) -> Response
+        requires behind { base ≤ length file.now }
+        ensures { spec.MovesBehind file.now base self.old self.new result }
+    {
+        let device = JournalFile::of_read(alloc, file).behind(base);
+        match self.kept.move_to(alloc, device, &file[base..]) {
+            Ok(()) => Response::Opened,
+            Err(fault) => unmoved_response(base, fault),
+        }
     }
 
     /// Hands out the calls on the journal's file that wait, where they fit into the buffer: what to write of all

@@ -4,7 +4,8 @@ ghost use Rattle.std.specs.Prelude.{◌≡◌, ◌≢◌, ◌+◌, None, Some, f
 ghost use Rattle.value.specs.declared.refusals.Refusal.TheVariants.{NoMemory};
 ghost use Rattle.commit.specs.Epochs.{IsNextEpoch, is_any_open, next_start_of};
 ghost use Rattle.commit.specs.Events.{without_session};
-ghost use Rattle.durable.specs.Promise.{IsReadyFor};
+ghost use Rattle.durable.specs.Promise.{HasMoved, IsReadyFor};
+ghost use Rattle.journal.specs.Device.{Only};
 ghost use Rattle.journal_file.specs.Files.{file_bytes, file_may_leave};
 ghost use Rattle.syntax.specs.declared.statements.Event.TheVariants.{Rollback};
 ghost use Rattle.calls.specs.Keeping as spec;
@@ -12,9 +13,9 @@ ghost use Rattle.calls.specs.Keeping as spec;
 use alone::Answer;
 use commit::{Core, Engine, Unanswered};
 use definitions::NewAssertion;
-use durable::{KeepFault, Writer};
+use durable::{KeepFault, OpenFault, Writer};
 use journal_file::{JournalFile, Outbox};
-use std::alloc::AllocError;
+use std::alloc::{AllocError, Global};
 use std::marker::Model;
 use syntax::ScriptLine;
 use value::{Refusal, Text};
@@ -117,24 +118,43 @@ impl KeptEngine {
         self.engine.answer(line)
     }
 
-    /// Begins a new epoch, as [`Engine::checkpoint`] does. No journal has the commits.
+    /// Begins a new epoch, as [`Engine::checkpoint`] does. The numbers of a journal go on.
     pub fn checkpoint(
         &mut self,
         dropped: &[Text],
         created: &[NewAssertion],
     ) -> Result<Core, Refusal>
-        requires alone { spec.is_journaled self.old ≡ false }
         ensures before { IfOk result (λ before. before ≡ self.old.engine.core) }
         ensures closed { IfOk result (λ _. is_any_open self.old.engine.seats ≡ false) }
         ensures after { IfOk result (λ _.
             IsNextEpoch dropped.now created.now self.old.engine.core self.new.engine.core) }
         ensures seats { IfOk result (λ _. self.new.engine.seats ≡ self.old.engine.seats) }
-        ensures writer { IfOk result (λ _. self.new.writer ≡ self.old.writer) }
+        ensures writer { IfOk result (λ _. self.new.writer ≡ spec.counted_anew self.old.writer) }
         ensures refused { IfErr result (λ refusal. refusal ≢ NoMemory
             → next_start_of dropped.now created.now self.old.engine ≡ Err refusal) }
         ensures same { OnErr result (self.new ≡ self.old) }
     {
-        self.engine.checkpoint(dropped, created)
+        checkpoint_with(&mut self.engine, &mut self.writer, dropped, created)
+    }
+
+    /// Goes on in another file, as [`Writer::move_to`] does. Without a journal nothing is done.
+    ///
+    /// # Errors
+    ///
+    /// Those of [`Writer::move_to`], and nothing has changed.
+    pub fn move_to(
+        &mut self,
+        alloc: Global,
+        device: JournalFile<Outbox>,
+        bytes: &[u8],
+    ) -> Result<(), OpenFault>
+        requires read { bytes.now ≡ file_bytes device }
+        requires on_disk { Only (file_bytes device) (file_may_leave device) }
+        ensures engine { self.new.engine ≡ self.old.engine }
+        ensures moved { OnOk result (spec.AreMoved bytes.now self.old.writer self.new.writer) }
+        ensures same { OnErr result (self.new.writer ≡ self.old.writer) }
+    {
+        move_writer(&self.engine, &mut self.writer, alloc, device, bytes)
     }
 
     /// Puts the lines of all commits that wait among the calls on the journal's file, and one sync behind them. Without
@@ -196,6 +216,85 @@ fn answer_kept_by(
         (record { engine = engine.new; writer = Some writer.new }) }
 {
     engine.answer_kept(line, writer)
+}
+
+/// Begins a new epoch. The next commit is the first of it, and in a journal the one behind the newest.
+#[tactic(auto, using(crate::proofs::Keeping::step_counted))]
+fn checkpoint_with(
+    engine: &mut Engine,
+    writer: &mut Option<Writer<JournalFile<Outbox>>>,
+    dropped: &[Text],
+    created: &[NewAssertion],
+) -> Result<Core, Refusal>
+    requires step { spec.IsInStep (length engine.old.core.records) writer.old }
+    ensures step { spec.IsInStep (length engine.new.core.records) writer.new }
+    ensures before { IfOk result (λ before. before ≡ engine.old.core) }
+    ensures closed { IfOk result (λ _. is_any_open engine.old.seats ≡ false) }
+    ensures after { IfOk result (λ _. IsNextEpoch dropped.now created.now engine.old.core engine.new.core) }
+    ensures seats { IfOk result (λ _. engine.new.seats ≡ engine.old.seats) }
+    ensures writer { IfOk result (λ _. writer.new ≡ spec.counted_anew writer.old) }
+    ensures refused { IfErr result (λ refusal. refusal ≢ NoMemory
+        → next_start_of dropped.now created.now engine.old ≡ Err refusal) }
+    ensures same { OnErr result (engine.new ≡ engine.old) }
+    ensures same_writer { OnErr result (writer.new ≡ writer.old) }
+{
+    let result = engine.checkpoint(dropped, created);
+    if result.is_ok() {
+        count_anew(writer);
+    }
+    result
+}
+
+/// Counts commits from the newest on, if there is a journal.
+fn count_anew(writer: &mut Option<Writer<JournalFile<Outbox>>>)
+    ensures { writer.new ≡ spec.counted_anew writer.old }
+{
+    match writer {
+        None => {}
+        Some(writer) => writer.last = writer.batch.newest,
+    }
+}
+
+/// Goes on in another file, if there is a journal. It is in step with this engine.
+fn move_writer(
+    engine: &Engine,
+    writer: &mut Option<Writer<JournalFile<Outbox>>>,
+    alloc: Global,
+    device: JournalFile<Outbox>,
+    bytes: &[u8],
+) -> Result<(), OpenFault>
+    requires read { bytes.now ≡ file_bytes device }
+    requires on_disk { Only (file_bytes device) (file_may_leave device) }
+    requires step { spec.IsInStep (length engine.now.core.records) writer.old }
+    ensures step { spec.IsInStep (length engine.now.core.records) writer.new }
+    ensures moved { OnOk result (spec.AreMoved bytes.now writer.old writer.new) }
+    ensures same { OnErr result (writer.new ≡ writer.old) }
+{
+    match writer {
+        None => {
+            drop(device);
+            Ok(())
+        }
+        Some(writer) => move_kept_by(engine, writer, alloc, device, bytes),
+    }
+}
+
+/// The same where there is one.
+fn move_kept_by(
+    _engine: &Engine,
+    writer: &mut Writer<JournalFile<Outbox>>,
+    alloc: Global,
+    device: JournalFile<Outbox>,
+    bytes: &[u8],
+) -> Result<(), OpenFault>
+    requires read { bytes.now ≡ file_bytes device }
+    requires on_disk { Only (file_bytes device) (file_may_leave device) }
+    requires step { spec.IsInStep (length _engine.now.core.records) (Some writer.old) }
+    ensures step { spec.IsInStep (length _engine.now.core.records) (Some writer.new) }
+    ensures moved { OnOk result (HasMoved file_bytes bytes.now writer.old writer.new) }
+    ensures same { OnErr result (writer.new ≡ writer.old) }
+{
+    writer.move_to(alloc, device, bytes)
 }
 
 /// Puts what waits among the calls on the file, if there is a journal. It is in step with this engine.

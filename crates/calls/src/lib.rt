@@ -25,12 +25,11 @@
 //! waits (`specs/States`).
 //!
 //! The modules, from the top down: `libraries` has the four functions; `databases` makes the calls, `steps` those of
-//! several events, and `journals` those for a journal, over `kept` (an engine with its journal), `images`, `sessions`
-//! and `statements`.
+//! several events, and `journals` those for a journal, over `kept` (an engine with its journal), `sessions` and
+//! `statements`.
 #![tactic(auto)]
 
 mod databases;
-mod images;
 mod journals;
 mod kept;
 mod libraries;

@@ -6,7 +6,7 @@ use Rattle.table.specs.Rows.{IsTable, Tables, layout_at, layouts_of}
 use Rattle.assertion.specs.Meaning.{State, rows_of}
 use Rattle.delta.specs.Views.{AreTables}
 
-none_there : (count table : ℕ) → rows_of table (replicate count []) ≡ []
+pub none_there : (count table : ℕ) → rows_of table (replicate count []) ≡ []
 none_there zero table = refl
 none_there (suc count) zero = refl
 none_there (suc count) (suc table) = none_there count table

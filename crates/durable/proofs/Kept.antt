@@ -1,6 +1,6 @@
 -- What the journal of an epoch says is restored.
-use Rattle.std.proofs.Common.{◌≡◌, ◌≤◌, ◌<◌, ℕ, List, [], ◌∷◌, ◌++◌, length, Option, Some, None, inl, inr, refl, sym, ap, ◌∙◌, subst, arith}
-use Rattle.std.specs.Prelude.{Contains, nat_le, take}
+use Rattle.std.proofs.Common.{◌≡◌, ◌≤◌, ◌<◌, ◌+◌, ℕ, zero, suc, List, [], ◌∷◌, ◌++◌, length, Option, Some, None, inl, inr, refl, sym, ap, ◌∙◌, subst, arith}
+use Rattle.std.specs.Prelude.{Contains, drop, nat_le, take}
 use Rattle.std.specs.Option.{option_and_then}
 use mathlib.Core.List.{reverse, reverse-cons}
 use Rattle.std.proofs.Math.Seq.{take-nil}
@@ -60,6 +60,13 @@ same_length P [] (y ∷ ys) p = absurd p
 same_length P (x ∷ xs) [] p = absurd p
 same_length P (x ∷ xs) (y ∷ ys) p = (let l = same_length P xs ys p.1 in omega (arith, l))
 
+take_more : {X : Type 0} (m n : ℕ) (xs : List X) → take (m + n) xs ≡ take m xs ++ take n (drop m xs)
+take_more zero n xs = (let none : 0 + n ≡ n = omega arith in ap (λ (k : ℕ). take k xs) none)
+take_more (suc m) n [] = take-nil (suc m + n) ∙ sym (take-nil n)
+take_more (suc m) n (x ∷ xs) =
+    (let more : suc m + n ≡ suc (m + n) = omega arith in ap (λ (k : ℕ). take k (x ∷ xs)) more)
+    ∙ ap (λ ys. x ∷ ys) (take_more m n xs)
+
 -- ---- entries one after the other
 
 module _ (layouts : List Layout) where
@@ -69,7 +76,7 @@ module _ (layouts : List Layout) where
   then_more entry entries more None h = refl
   then_more entry entries more (Some state) h = h state
 
-  restored_more : (entries more : List Entry) (state : State) → restored layouts (entries ++ more) state ≡ option_and_then (restored layouts more) (restored layouts entries state)
+  pub restored_more : (entries more : List Entry) (state : State) → restored layouts (entries ++ more) state ≡ option_and_then (restored layouts more) (restored layouts entries state)
   restored_more [] more state = refl
   restored_more (entry ∷ entries) more state = then_more entry entries more (restored_changes layouts entry.changes state) (restored_more entries more)
 
@@ -151,3 +158,17 @@ module _ (declared : Declared) (start : State) (fit : IsState (layouts_in declar
             ∙ some_restored earlier accepted.1 history.1 s.front s.pairs number
             ∙ ap (λ held. Some (committed held)) (sym (held_same number c earlier later))
       ]
+
+-- ---- behind an image
+
+-- what restores a state is restored in one with the entries behind it
+pub from_image : (layouts : List Layout) (image : Entry) (entries : List Entry) (blank start state : State) (before more : ℕ) (leaves : ℕ → State)
+    → restored layouts (image ∷ []) blank ≡ Some state → ((number : ℕ) → restored layouts (take number entries) start ≡ Some (leaves number)) → state ≡ leaves before
+    → restored layouts (image ∷ take more (drop before entries)) blank ≡ Some (leaves (before + more))
+from_image layouts image entries blank start state before more leaves put kept is =
+    let rest = take more (drop before entries) in
+    restored_more layouts (image ∷ []) rest blank
+    ∙ ap (λ (o : Option State). option_and_then (restored layouts rest) o) (put ∙ ap Some is ∙ sym (kept before))
+    ∙ sym (restored_more layouts (take before entries) rest start)
+    ∙ ap (λ (es : List Entry). restored layouts es start) (sym (take_more before more entries))
+    ∙ kept (before + more)

@@ -3,6 +3,8 @@ pub mod PutBack
 pub mod Kept
 pub mod Plain
 pub mod Blank
+pub mod Imaged
+pub mod Refused
 pub mod Waiting
 pub mod Flushing
 pub mod Said

@@ -5,3 +5,4 @@ pub mod Opening
 pub mod Writing
 pub mod Images
 pub mod Epochs
+pub mod Faults

@@ -51,6 +51,13 @@ module _ {D : Type 0} (seen : D → List ℕ) (may_leave : D → List ℕ → Ty
     pub newest : new.batch.newest ≡ old.batch.newest
     pub in_order : IsInOrder new
 
+-- It goes on in a file of these bytes, with one entry, that of the newest commit. Nothing waited.
+pub record HasMoved {D : Type 0} (seen : D → List ℕ) (bytes : List ℕ) (old new : Writer D) : Type 0 where
+  pub says : entries_of seen new ≡ entries_in old.batch.newest bytes
+  pub one : length (entries_of seen new) ≡ 1
+  pub none : entries_waiting old.batch ≡ []
+  pub rest : new ≡ record old { journal = new.journal; first = old.batch.newest }
+
 module _ {D : Type 0} (seen : D → List ℕ) (may_leave : D → List ℕ → Type 0) (moment : D → ℕ)
     (left_since : D → ℕ → List ℕ → Type 0) where
   -- At each moment since, a crash leaves a file that says what was on the disk before, and behind it the first few of

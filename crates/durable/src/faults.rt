@@ -74,18 +74,33 @@ pub enum OpenFault {
 }
 
 impl From<AllocError> for OpenFault {
+    ghost use Rattle.std.specs.Prelude.{◌≡◌};
+    ghost use Rattle.durable.specs.declared.faults.OpenFault.TheVariants.{NoMemory};
+
+    ghost from_gives = { λ _ fault. fault ≡ NoMemory };
+
     fn from(_error: AllocError) -> OpenFault {
         OpenFault::NoMemory
     }
 }
 
 impl<T: Drop> From<AllocFailed<T>> for OpenFault {
+    ghost use Rattle.std.specs.Prelude.{◌≡◌};
+    ghost use Rattle.durable.specs.declared.faults.OpenFault.TheVariants.{NoMemory};
+
+    ghost from_gives = { λ _ fault. fault ≡ NoMemory };
+
     fn from(_error: AllocFailed<T>) -> OpenFault {
         OpenFault::NoMemory
     }
 }
 
 impl From<JournalFault> for OpenFault {
+    ghost use Rattle.std.specs.Prelude.{◌≡◌};
+    ghost use Rattle.durable.specs.Faults.{of_journal};
+
+    ghost from_gives = { λ below fault. fault ≡ of_journal below };
+
     fn from(fault: JournalFault) -> OpenFault {
         match fault {
             JournalFault::NoMemory => OpenFault::NoMemory,
@@ -95,6 +110,11 @@ impl From<JournalFault> for OpenFault {
 }
 
 impl From<RestoreFault> for OpenFault {
+    ghost use Rattle.std.specs.Prelude.{◌≡◌};
+    ghost use Rattle.durable.specs.Faults.{of_restoring};
+
+    ghost from_gives = { λ below fault. fault ≡ of_restoring below };
+
     fn from(fault: RestoreFault) -> OpenFault {
         match fault {
             RestoreFault::NoMemory => OpenFault::NoMemory,
@@ -104,6 +124,11 @@ impl From<RestoreFault> for OpenFault {
 }
 
 impl From<DeviceFault> for OpenFault {
+    ghost use Rattle.std.specs.Prelude.{◌≡◌};
+    ghost use Rattle.durable.specs.Faults.{of_device};
+
+    ghost from_gives = { λ below fault. fault ≡ of_device below };
+
     fn from(fault: DeviceFault) -> OpenFault {
         match fault {
             DeviceFault::NoMemory => OpenFault::NoMemory,
@@ -113,6 +138,10 @@ impl From<DeviceFault> for OpenFault {
 }
 
 impl From<Refusal> for OpenFault {
+    ghost use Rattle.durable.specs.Faults.{IsOfRefusal};
+
+    ghost from_gives = { λ refusal fault. IsOfRefusal refusal fault };
+
     fn from(refusal: Refusal) -> OpenFault {
         match refusal {
             Refusal::NoMemory => OpenFault::NoMemory,

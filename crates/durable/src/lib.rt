@@ -28,8 +28,8 @@ mod writers;
 
 pub use batches::Batch;
 pub use faults::{KeepFault, OpenFault, RestoreFault};
-pub use images::image_of;
-pub use laws::what_was_kept_is_restored;
+pub use images::spell_image;
+pub use laws::{a_journal_is_restored, an_image_is_restored, what_was_kept_is_restored};
 pub use ledgers::Ledger;
 pub use opening::restore_tables;
 pub use restoring::restore;

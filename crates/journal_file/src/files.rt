@@ -231,6 +231,7 @@ impl Draft {
     pub fn publish<R>(self, rt: &R, path: &str) -> Result<JournalFile<File>, OpenFault>
     where
         R: Files<File = File> + AllocGlobal,
+        requires durable { IsOnDisk self.file }
         ensures { IfOk result (λ file. file ≡ self.file) }
     {
         let Draft {
@@ -239,9 +240,9 @@ impl Draft {
             replaces,
         } = self;
         if replaces {
-            replace(rt, &called, path)?;
+            replace(rt, &file, &called, path)?;
         } else {
-            name(rt, &called, path)?;
+            name(rt, &file, &called, path)?;
         }
         Ok(file)
     }

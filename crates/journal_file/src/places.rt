@@ -1,6 +1,13 @@
 //! Files by their names: locked, and with their folder on the disk. All of this is trusted.
+//!
+//! A name stands for the file that had it, or for the one that it was given to, after a crash too, and for the latter
+//! once its folder was synced. So that it stands for a whole file at each moment, it may be given to none that is not on
+//! the disk: that is what [`replace`] and [`name`] require.
+
+ghost use Rattle.journal_file.specs.Files.{IsOnDisk};
 
 use crate::faults::OpenFault;
+use crate::files::JournalFile;
 use std::fs;
 use std::fs::{File, OpenOptions};
 use std::os::fd::AsRawFd;
@@ -94,9 +101,12 @@ pub(crate) fn make_alone<R: Files<File = File>>(rt: &R, draft: &str) -> Result<F
 /// Gives a file its name in the place of the one that has it.
 pub(crate) fn replace<R: Files<File = File>>(
     rt: &R,
+    _file: &JournalFile<File>,
     draft: &str,
     path: &str,
-) -> Result<(), OpenFault> {
+) -> Result<(), OpenFault>
+    requires durable { IsOnDisk _file.now }
+{
     fs::rename(rt, draft, path)?;
     sync_folder(rt, path)
 }
@@ -104,9 +114,12 @@ pub(crate) fn replace<R: Files<File = File>>(
 /// Gives a file a name that no file has: where one came meanwhile, a link fails, and a rename would take its place.
 pub(crate) fn name<R: Files<File = File>>(
     rt: &R,
+    _file: &JournalFile<File>,
     draft: &str,
     path: &str,
-) -> Result<(), OpenFault> {
+) -> Result<(), OpenFault>
+    requires durable { IsOnDisk _file.now }
+{
     fs::hard_link(rt, draft, path)?;
     fs::remove_file(rt, draft)?;
     sync_folder(rt, path)

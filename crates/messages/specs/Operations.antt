@@ -23,4 +23,5 @@ operation_of n =
     else if n == 14 then Some op.RunAll
     else if n == 15 then Some op.Transact
     else if n == 16 then Some op.Image
+    else if n == 17 then Some op.Move
     else None

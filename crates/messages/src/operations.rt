@@ -24,9 +24,10 @@ pub enum Operation {
     RunAll,
     Transact,
     Image,
+    Move,
 }
 
-/// The operation of a number; there is none beyond 16.
+/// The operation of a number; there is none beyond 17.
 pub fn operation_of(number: u32) -> Option<Operation>
     ensures { result ≡ operation_of number }
 {
@@ -48,6 +49,7 @@ pub fn operation_of(number: u32) -> Option<Operation>
         14 => Some(Operation::RunAll),
         15 => Some(Operation::Transact),
         16 => Some(Operation::Image),
+        17 => Some(Operation::Move),
         _ => None,
     }
 }

@@ -11,8 +11,8 @@ use crate::shells::end_shell;
 use crate::texts::{Texts, read_texts};
 use clap::ArgMatches;
 use delta::View;
-use durable::{Ledger, OpenFault, image_of};
-use journal::{Header, Lines, read_header, sum_of};
+use durable::{Ledger, OpenFault, spell_image};
+use journal::{read_header, sum_of};
 use journal_file::{Draft, JournalFile, OpenFault as FileFault, write_new};
 use replay::{ProgramFault, admit_text};
 use shell::{LedgerFault, LedgerShell, Pace, Stop};
@@ -310,19 +310,6 @@ fn open_ledger<R: Files<File = File> + AllocGlobal>(
         })),
         opened => Ok(opened?),
     }
-}
-
-/// The first bytes of a journal of these definitions, in which the commit of this number left these tables.
-fn spell_image(alloc: Global, defs: &[u8], view: &View, number: u64) -> Result<Lines, AllocError> {
-    let mut lines = Lines::new(alloc);
-    let header = Header {
-        first: number,
-        declared: sum_of(defs),
-    };
-    lines.add_header(&header)?;
-    let image = image_of(alloc, view)?;
-    lines.add_commit(number, number, image.as_slice())?;
-    Ok(lines)
 }
 
 /// Puts an image of the rows that a journal holds in its place, under these definitions.

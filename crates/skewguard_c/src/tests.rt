@@ -311,10 +311,11 @@ fn has_both_rows(rt: HostRuntime, library: &mut Library) -> Result<bool, Fail> {
 fn journal_of_a_row(rt: HostRuntime) -> Result<(Vec<u8>, usize), Fail> {
     let definitions = numbered(rt.alloc(), &[100], DEFS.as_bytes())?;
     let (mut file, length) = new_journal(rt)?;
+    let dropping = numbered(rt.alloc(), &[0, 1], b"\x02\x01\0\0\0\0\0\0\0X")?;
     let mut library = open_journal(rt.alloc(), &definitions, &file);
     let committed = commits_a_row(rt, &mut library, &mut file);
     // (no rules are changed on a journal, and nothing waits then)
-    let kept = answers(rt, &mut library, 13, b"", 13, b"\0");
+    let kept = answers(rt, &mut library, 13, &dropping, 13, b"\0");
     drop(library);
     if !(committed? && kept) {
         file.clear();
@@ -328,6 +329,39 @@ fn a_commit_outlives_its_library(rt: HostRuntime) -> Result<(), Fail> {
     let definitions = numbered(alloc, &[100], DEFS.as_bytes())?;
     let (file, _) = journal_of_a_row(rt)?;
     let mut library = open_journal(alloc, &definitions, &file);
+    let found = has_both_rows(rt, &mut library);
+    drop(library);
+    assert!(rt; found?);
+    Ok(())
+}
+
+/// Commits a row, and gives the beginning of a journal of the committed tables, in which the library goes on then; no
+/// bytes where it does not. In its own file, which has more, and in none it may not.
+fn moves_on(rt: HostRuntime, library: &mut Library, file: &mut Vec<u8>) -> Result<Vec<u8>, Fail> {
+    let mut headless = numbered(rt.alloc(), &[], b"\x12")?;
+    headless.extend_from_slice(&numbered(rt.alloc(), &[1, 0, 0], b"")?)?;
+    let committed = commits_a_row(rt, library, file)?;
+    let image = image_of(rt, library, DEFS.as_bytes())?;
+    let refused = answers(rt, library, 17, b"", 14, &headless)
+        && answers(rt, library, 17, file, 4, b"\0");
+    let moved = answers(rt, library, 17, &image, 0, b"\x01\x01\0\0\0\0\0\0\0");
+    if committed && refused && moved {
+        Ok(image)
+    } else {
+        Ok(Vec::new(rt.alloc()))
+    }
+}
+
+#[test]
+fn commits_go_on_in_another_file(rt: HostRuntime) -> Result<(), Fail> {
+    let alloc = rt.alloc();
+    let definitions = numbered(alloc, &[100], DEFS.as_bytes())?;
+    let (mut file, _) = new_journal(rt)?;
+    let mut library = open_journal(alloc, &definitions, &file);
+    let moved = moves_on(rt, &mut library, &mut file);
+    drop(library);
+    let image = moved?;
+    let mut library = open_journal(alloc, &definitions, &image);
     let found = has_both_rows(rt, &mut library);
     drop(library);
     assert!(rt; found?);

@@ -16,7 +16,7 @@ import threading
 import warnings
 import weakref
 from collections import OrderedDict, deque
-from ctypes import POINTER, c_char_p, c_int, c_int32, c_size_t, c_uint32, c_void_p
+from ctypes import POINTER, c_char_p, c_int, c_int32, c_size_t, c_uint32, c_uint64, c_void_p
 from typing import (
     Any,
     Callable,
@@ -183,6 +183,10 @@ def _loaded_from(name: str) -> ctypes.CDLL:
     library.skewguard_journal_open.restype = c_int32
     library.skewguard_journal_call.argtypes = library.skewguard_library_call.argtypes
     library.skewguard_journal_call.restype = c_int32
+    library.skewguard_journal_checkpoint.argtypes = [c_void_p]
+    library.skewguard_journal_checkpoint.restype = c_int
+    library.skewguard_journal_checkpoint_bytes.argtypes = [c_void_p, c_uint64]
+    library.skewguard_journal_checkpoint_bytes.restype = None
     library.skewguard_journal_close.argtypes = [c_void_p]
     library.skewguard_journal_close.restype = None
     return library
@@ -234,7 +238,7 @@ class Engine:
         handle = c_void_p()
         self._handle: Optional[int] = None
         library = self._library
-        is_journaled = path is not None
+        self._is_journaled = is_journaled = path is not None
         self._library_call = library.skewguard_journal_call if is_journaled else library.skewguard_library_call
         # At the end of the process nothing is freed: another thread may be in a call.
         close = library.skewguard_journal_close if is_journaled else library.skewguard_library_close
@@ -291,6 +295,21 @@ class Engine:
     def _call(self, operation: int, request: bytes, text: Optional[str]) -> bytes:
         """The reply to an operation with its request. A fault in the text is shown in it."""
         return self._serve(self._called, operation, request, text)
+
+    def _shorten(self) -> None:
+        """Puts an image in the place of a journal's file."""
+        error = self._serve(self._put_image)
+        if error:
+            raise error_of(Fault.IO_ERROR, b"\0" + number_bytes(error))
+
+    def _put_image(self) -> int:
+        """The same, under the lock: 0, or an errno."""
+        return self._library.skewguard_journal_checkpoint(self._handle) if self._is_journaled else 0
+
+    def _set_checkpoint_bytes(self, count: int) -> None:
+        """How long the commits in a journal's file may become. The engine is new, and nobody calls it."""
+        if self._is_journaled:
+            self._library.skewguard_journal_checkpoint_bytes(self._handle, count)
 
     @property
     def closed(self) -> bool:

@@ -24,6 +24,7 @@ class Operation:
     RUN_ALL = 14
     TRANSACT = 15
     IMAGE = 16
+    MOVE = 17
 
 
 class Status:

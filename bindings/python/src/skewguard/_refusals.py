@@ -85,7 +85,7 @@ STATES: Dict[int, str] = {
 _FAULTS: Dict[int, str] = {
     Status.REPLY_WAITS: "the call was answered, but there was no memory for its reply",
     Status.BAD_NAME: "a name is a letter, then letters, digits, _, 128 at most, and no reserved word",
-    Status.JOURNALED: "a manager that keeps a journal makes no checkpoint: `skewguard checkpoint` makes one of its file",
+    Status.JOURNALED: "the rules of a journal can't be changed while it is open",
     Fault.CLOSED: "the manager is closed",
     Fault.CALLING: "a trace, or a signal's handler, may not call the manager in the midst of a call",
     Fault.OF_PARENT: "the manager belongs to the process that opened it: open one in each process",

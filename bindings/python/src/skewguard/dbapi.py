@@ -171,8 +171,8 @@ def connect(
     database: a manager, which connections share; or definitions, for a manager that the connection opens and closes.
     read_only, session: of its transactions, as `Manager.transaction` has them.
     autocommit: whether each statement is a transaction of its own.
-    options: `journal`, `max_commits`, `trace` and `log` of a manager that is opened. Raises what `skewguard.open`
-        raises.
+    options: `journal`, `checkpoint_bytes`, `max_commits`, `trace` and `log` of a manager that is opened. Raises what
+        `skewguard.open` raises.
     """
     is_own = not isinstance(database, Manager)
     if options and not is_own:

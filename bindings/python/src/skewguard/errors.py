@@ -171,10 +171,11 @@ class EpochFull(OperationalError):
 
 
 class JournalError(OperationalError):
-    """A journal can't be opened, or a commit was not kept in it.
+    """A journal can't be opened, a commit was not kept in it, or no checkpoint was made of it.
 
     errno: what the system says, where a call on the file failed; None elsewhere. From then on nothing is answered:
-        close the manager and open it again. Whether a COMMIT that raised this was kept is known then.
+        close the manager and open it again. Whether a COMMIT that raised this was kept is known then. Where
+        `Manager.checkpoint` raised it the manager goes on, unless its next call raises it too.
     path: the file, where it was not opened.
     commit, byte: of a damaged journal, the commit that is missing and where its line begins.
 

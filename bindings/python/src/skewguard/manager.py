@@ -48,6 +48,7 @@ def open(
     definitions: str,
     *,
     journal: Union[None, str, "os.PathLike[str]"] = None,
+    checkpoint_bytes: int = 16 * 2**20,
     max_commits: int = 1_000_000,
     trace: Optional[Callable[[str], Any]] = None,
     log: Optional[logging.Logger] = None,
@@ -58,6 +59,8 @@ def open(
     journal: the file of a journal, which is made where there is none. Each COMMIT is on the disk before it returns, and
         the next `open` goes on from there: the tables are then those that the file holds, and the rows of the
         definitions are passed over. No other process may have it open.
+    checkpoint_bytes: where the commits in the journal's file become longer than that, and than the rows in front of
+        them, an image of the newest rows takes the file's place by itself; 0: never.
     max_commits: so many commits are taken, until `checkpoint` begins a new epoch (1 to 4,294,967,295).
     trace: is called with the line of the report for each event, as `skewguard replay` prints it. It runs in the midst
         of the call, and may not call the manager.
@@ -72,6 +75,10 @@ def open(
         raise TypeError(f"max_commits is a number, not {type(max_commits).__name__}")
     if not 1 <= max_commits <= MOST_COMMITS:
         raise ValueError(f"max_commits is {max_commits}, and not from 1 to {MOST_COMMITS}")
+    if isinstance(checkpoint_bytes, bool) or not isinstance(checkpoint_bytes, int):
+        raise TypeError(f"checkpoint_bytes is a number, not {type(checkpoint_bytes).__name__}")
+    if not 0 <= checkpoint_bytes < 2**62:
+        raise ValueError(f"checkpoint_bytes is {checkpoint_bytes}, and not from 0 to {2**62 - 1}")
     if trace is not None and not callable(trace):
         raise TypeError(f"trace is called with each line, and a {type(trace).__name__} can't be")
     if log is not None and not isinstance(log, logging.Logger):
@@ -89,6 +96,7 @@ def open(
     except Error as error:
         error._refused = (Role.DEFINITIONS, "", definitions)
         raise
+    manager._set_checkpoint_bytes(checkpoint_bytes)
     manager._log, manager._definitions = log, definitions
     return manager
 
@@ -205,10 +213,17 @@ class Manager(_backend.Engine):
 
         The numbers of commits begin anew, and the memory of the epoch's history is given back. While a transaction is
         open it is refused (ProgrammingError, number 15). Else it raises what `open` raises; nothing has changed then.
+
+        With a journal an image of the newest rows takes the place of its file first, also where a transaction is open.
+        Where that can't be, as on a full disk, it raises JournalError, and the manager goes on with the file as it is.
+        No rule is created or dropped then (OperationalError): a journal is of one text of definitions, and
+        `skewguard checkpoint` takes another for a file that is closed.
         """
         if isinstance(drop, str):
             raise TypeError(f"drop is a list of names: [{drop!r}]")
         names = [b"\2" + counted(text_bytes(name)) for name in drop]
+        if not create and not names:
+            self._shorten()
         request = counted(text_bytes(create)) + number_bytes(len(names)) + b"".join(names)
         try:
             return Reader(self._call(Operation.CHECKPOINT, request, create)).text()

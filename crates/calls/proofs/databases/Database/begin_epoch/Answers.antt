@@ -2,7 +2,7 @@ use Rattle.std.proofs.Common.{ap, refl, ◌∙◌, inr}
 use Rattle.messages.specs.declared.responses.Response.TheVariants.{Changed}
 use Rattle.commit.specs.Events.{EngineState}
 use Rattle.replay.specs.Reports.{closing_part_of}
-use Rattle.calls.proofs.databases.Database.change_rules.Goals as goal
+use Rattle.calls.proofs.databases.Database.begin_epoch.Goals as goal
 
 pub returns-in-Ok-checkpoint : goal.returns-in-Ok-checkpoint
 returns-in-Ok-checkpoint c = inr (inr (record {
