@@ -28,7 +28,8 @@ enum { ROOM = 1 << 20, BLOCK = 1 << 16, CALLS = 4096, COMMITS = 16 << 20 };
 /* The calls that the library hands out, by their first number. */
 enum { CALL_WRITE = 1, CALL_ZEROS = 2, CALL_SYNC = 3 };
 
-enum { NUMBER = 8 };
+/* How long a number is, and where the bytes of an image begin in a reply: behind its kind and their length. */
+enum { NUMBER = 8, IMAGE_AT = 1 + NUMBER };
 
 /* A name in a folder, which is open, so that it stays the same one whatever becomes of the process's own folder. */
 typedef struct Place {
@@ -308,15 +309,30 @@ static int32_t reply_of(void *library, uint32_t operation, const unsigned char *
     }
 }
 
+/* The beginning of a journal of these definitions, with the committed tables of a library: 0, which is for want of
+ * memory, or its length. It lies in a reply, at IMAGE_AT, which the caller frees in each case. */
+static size_t image_of(void *library, const unsigned char *definitions, size_t length, unsigned char **reply)
+{
+    size_t reply_length = 0;
+    int32_t status = reply_of(library, SKEWGUARD_DO_IMAGE, definitions, length, reply, &reply_length);
+    return status == SKEWGUARD_DONE && reply_length > IMAGE_AT ? reply_length - IMAGE_AT : 0;
+}
+
+/* Takes a draft away, which is this open file. */
+static int drop_draft(const Place *place, int file)
+{
+    int error = unlinkat(place->folder, place->draft, 0) ? errno : 0;
+    close(file);
+    return error;
+}
+
 /* Takes a draft away that a killed process left; one that a process is making is locked. */
 static int remove_draft(const Place *place)
 {
     int file, error = open_locked(place, place->draft, 0, 0, &file);
     if (error)
         return error == ENOENT ? 0 : error;
-    error = unlinkat(place->folder, place->draft, 0) ? errno : 0;
-    close(file);
-    return error;
+    return drop_draft(place, file);
 }
 
 static int copy_mode(int from, int to)
@@ -343,10 +359,8 @@ static int make_draft(const Place *place, int old, const unsigned char *bytes, s
         error = write_all(*file, bytes, length, 0);
     if (!error && fsync(*file))
         error = errno;
-    if (error) {
-        unlinkat(place->folder, place->draft, 0);
-        close(*file);
-    }
+    if (error)
+        drop_draft(place, *file);
     return error;
 }
 
@@ -380,11 +394,11 @@ static int32_t make_journal(const Place *place, const unsigned char *request, si
         free(reply);
         return status == SKEWGUARD_NO_MEMORY ? status : SKEWGUARD_DONE;
     }
-    status = reply_of(*library, SKEWGUARD_DO_IMAGE, request + NUMBER, length - NUMBER, &reply, &reply_length);
+    reply_length = image_of(*library, request + NUMBER, length - NUMBER, &reply);
     skewguard_library_close(*library);
     *library = NULL;
-    if (status == SKEWGUARD_DONE && reply_length > 1 + NUMBER) {
-        *error = make_file(place, reply + 1 + NUMBER, reply_length - 1 - NUMBER);
+    if (reply_length) {
+        *error = make_file(place, reply + IMAGE_AT, reply_length);
         status = *error ? SKEWGUARD_IO_ERROR : SKEWGUARD_DONE;
     } else {
         status = SKEWGUARD_NO_MEMORY;
@@ -430,11 +444,11 @@ static const unsigned char *behind_line(const unsigned char *at, const unsigned 
     return found ? found + 1 : end;
 }
 
-/* Sets where the lines become too long, by how long the commits behind the image may be. */
-static void set_longest(Journal *journal)
+/* Sets where the lines become too long, by how long the commits behind this place may be. */
+static void set_longest(Journal *journal, uint64_t from)
 {
     uint64_t commits = journal->most > journal->image ? journal->most : journal->image;
-    journal->longest = journal->most ? journal->image + commits : UINT64_MAX;
+    journal->longest = journal->most ? from + commits : UINT64_MAX;
 }
 
 /* Notes where the image ends, which is the third line, behind the header and an empty one, and where all lines do,
@@ -444,7 +458,7 @@ static void measure(Journal *journal, const unsigned char *bytes, size_t length)
     const unsigned char *end = bytes + length, *zeros = memchr(bytes, 0, length);
     journal->image = (uint64_t)(behind_line(behind_line(behind_line(bytes, end), end), end) - bytes);
     journal->end = (uint64_t)((zeros ? zeros : end) - bytes);
-    set_longest(journal);
+    set_longest(journal, journal->image);
 }
 
 /* Opens the library on the file that is there. */
@@ -547,8 +561,7 @@ static int go_on_in(Journal *journal, int file, const unsigned char *bytes, size
     int old = journal->file, error;
     if (skewguard_library_call(journal->library, SKEWGUARD_DO_MOVE, bytes, length, reply, sizeof reply, &reply_length)
         != SKEWGUARD_DONE) {
-        unlinkat(journal->place.folder, journal->place.draft, 0);
-        close(file);
+        drop_draft(&journal->place, file);
         return ENOMEM;
     }
     journal->file = file;
@@ -573,19 +586,14 @@ int skewguard_journal_checkpoint(void *made)
 {
     Journal *journal = made;
     unsigned char *reply = NULL;
-    size_t length = 0;
-    int32_t status;
+    size_t length;
     int error = settle(journal);
     if (error)
         return error;
-    status = reply_of(journal->library, SKEWGUARD_DO_IMAGE, journal->definitions, journal->definitions_length, &reply,
-                      &length);
-    if (status == SKEWGUARD_DONE && length > 1 + NUMBER)
-        error = replace_file(journal, reply + 1 + NUMBER, length - 1 - NUMBER);
-    else
-        error = ENOMEM;
+    length = image_of(journal->library, journal->definitions, journal->definitions_length, &reply);
+    error = length ? replace_file(journal, reply + IMAGE_AT, length) : ENOMEM;
     free(reply);
-    set_longest(journal);
+    set_longest(journal, journal->image);
     return error;
 }
 
@@ -596,14 +604,14 @@ static void shorten(Journal *journal)
     if (journal->error || journal->end <= journal->longest)
         return;
     if (skewguard_journal_checkpoint(journal))
-        journal->longest = journal->end + (journal->most > journal->image ? journal->most : journal->image);
+        set_longest(journal, journal->end);
 }
 
 void skewguard_journal_checkpoint_bytes(void *made, uint64_t bytes)
 {
     Journal *journal = made;
     journal->most = bytes;
-    set_longest(journal);
+    set_longest(journal, journal->image);
 }
 
 /* -- calls */
