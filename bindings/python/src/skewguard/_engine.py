@@ -204,6 +204,11 @@ def draw(request: bytes) -> str:
         room = length.value
 
 
+def _io_error(error: int) -> Exception:
+    """That a call on the journal's file failed, for this errno."""
+    return error_of(Fault.IO_ERROR, b"\0" + number_bytes(error))
+
+
 def _close_library(close: Callable[[c_void_p], None], handle: c_void_p, process: int) -> None:
     # A child has a copy of what its parent's threads were about to change, and leaves it as it is.
     if handle and process == Process.number:
@@ -252,8 +257,7 @@ class Engine:
         else:
             status = library.skewguard_library_open(request, len(request), ctypes.byref(handle))
         if status != Status.DONE:
-            is_of_file = status == Fault.IO_ERROR
-            raise error_of(status if is_of_file else Status.NO_MEMORY, b"\0" + number_bytes(error.value))
+            raise _io_error(error.value) if status == Fault.IO_ERROR else error_of(Status.NO_MEMORY, b"")
         self._handle = handle.value
         try:
             self._serve(self._check_layout, definitions)
@@ -300,7 +304,7 @@ class Engine:
         """Puts an image in the place of a journal's file."""
         error = self._serve(self._put_image)
         if error:
-            raise error_of(Fault.IO_ERROR, b"\0" + number_bytes(error))
+            raise _io_error(error)
 
     def _put_image(self) -> int:
         """The same, under the lock: 0, or an errno."""

@@ -39,6 +39,7 @@ T = TypeVar("T")
 
 
 MOST_COMMITS = 2**32 - 1
+MOST_BYTES = 2**62 - 1
 
 # As many statements of a call can be kept prepared at once; one with more is made by a call for each.
 MOST_TEXTS = 200
@@ -71,14 +72,8 @@ def open(
     DataError for a row that its table can't take, RuleViolated for an assertion that is false on the rows to begin
     with, JournalError for a file that can't be opened, is damaged or of other definitions, and NoMemory.
     """
-    if isinstance(max_commits, bool) or not isinstance(max_commits, int):
-        raise TypeError(f"max_commits is a number, not {type(max_commits).__name__}")
-    if not 1 <= max_commits <= MOST_COMMITS:
-        raise ValueError(f"max_commits is {max_commits}, and not from 1 to {MOST_COMMITS}")
-    if isinstance(checkpoint_bytes, bool) or not isinstance(checkpoint_bytes, int):
-        raise TypeError(f"checkpoint_bytes is a number, not {type(checkpoint_bytes).__name__}")
-    if not 0 <= checkpoint_bytes < 2**62:
-        raise ValueError(f"checkpoint_bytes is {checkpoint_bytes}, and not from 0 to {2**62 - 1}")
+    _require_number("max_commits", max_commits, 1, MOST_COMMITS)
+    _require_number("checkpoint_bytes", checkpoint_bytes, 0, MOST_BYTES)
     if trace is not None and not callable(trace):
         raise TypeError(f"trace is called with each line, and a {type(trace).__name__} can't be")
     if log is not None and not isinstance(log, logging.Logger):
@@ -99,6 +94,14 @@ def open(
     manager._set_checkpoint_bytes(checkpoint_bytes)
     manager._log, manager._definitions = log, definitions
     return manager
+
+
+def _require_number(name: str, number: int, least: int, most: int) -> None:
+    """Raises where an option is no number, or one out of its range."""
+    if isinstance(number, bool) or not isinstance(number, int):
+        raise TypeError(f"{name} is a number, not {type(number).__name__}")
+    if not least <= number <= most:
+        raise ValueError(f"{name} is {number}, and not from {least} to {most}")
 
 
 def _told(trace: Optional[Callable[[str], Any]], log: Optional[logging.Logger]) -> Optional[Callable[[str], Any]]:
