@@ -36,7 +36,7 @@ from harness.servers import Player, ServerOfCases
 
 COMPARES = ['=', '<>', '<', '<=', '>', '>=']
 NUMBERS = [0, 1, 2, 3, 4, -1, -2, 5, 7, 10, 10 ** 15, -10 ** 15, 999999999999999]
-TEXTS = ['A', 'B', '', "O'N", 'ab', 'b ', 'zz~', '\\', '$x$', 'KIM', 'ABCDEFGHIJ']
+TEXTS = ['A', 'B', '', "O'N", 'ab', 'b ', 'zz~', '\\', '$x$', 'KIM', 'ABCDEFGHIJ', 'Žofie', 'é', '字字', '🙂']
 
 
 class Maker:
@@ -426,6 +426,11 @@ class Differs(Exception):
     pass
 
 
+def of_utf_8(output):
+    """What the program wrote: a run hands out each byte as a character."""
+    return output.encode('latin-1').decode()
+
+
 class Cases:
     def __init__(self, program, server):
         self.program, self.server = program, server
@@ -439,14 +444,14 @@ class Cases:
 
     def replayed(self, defs, events):
         """The answers of the program to a script's events, or None where the definitions are refused."""
-        ran = replay(self.program, defs, ''.join(loads.script(events)))
+        ran = replay(self.program, defs.encode(), ''.join(loads.script(events)).encode())
         if ran.status != 0:
             return None
-        answered = replies(ran.output)
+        answered = replies(of_utf_8(ran.output))
         return [answer_of_program(answered[at]) for at in range(len(events))]
 
     def printed(self, defs):
-        return run_on([self.program, 'postgresql'], defs)
+        return run_on([self.program, 'postgresql'], defs.encode())
 
     def load(self, defs):
         printed_ = self.printed(defs)
@@ -457,7 +462,7 @@ class Cases:
         try:
             self.cursor.execute(f'CREATE SCHEMA {schema}')
             self.cursor.execute(f'SET search_path = {schema}')
-            self.cursor.execute(printed_.output)
+            self.cursor.execute(of_utf_8(printed_.output))
         except psycopg2.Error as error:
             raise Differs(f'the SQL is not loaded: {error}\n{printed_.output}')
         return schema

@@ -299,7 +299,8 @@ typedef enum skewguard_fault {
     SKEWGUARD_FAULT_FALSE_AT_CREATION = 21,
     SKEWGUARD_FAULT_ATTRIBUTE_CLASH = 22,
     SKEWGUARD_FAULT_READ_ONLY = 23,
-    SKEWGUARD_FAULT_TOO_MANY_SESSIONS = 24
+    SKEWGUARD_FAULT_TOO_MANY_SESSIONS = 24,
+    SKEWGUARD_FAULT_NOT_KEPT = 25
 } skewguard_fault;
 
 /* Why something was refused. */
@@ -427,6 +428,7 @@ static inline skewguard_status skewguard_forget(skewguard *db, uint64_t statemen
  * by skewguard_next_row.
  *
  * REFUSED by the engine. NO_SESSION, NO_STATEMENT, WRONG_COUNT, BAD_VALUE, NO_MEMORY, REPLY_WAITS, CLOSED, BAD_REQUEST.
+ * With a journal also IO_ERROR, and of a COMMIT NOT_KEPT.
  */
 static inline skewguard_status skewguard_run(skewguard *db, uint64_t session, uint64_t statement,
                                              const skewguard_value *values, size_t count);
@@ -436,7 +438,7 @@ static inline skewguard_status skewguard_run(skewguard *db, uint64_t session, ui
 static inline skewguard_status skewguard_execute(skewguard *db, uint64_t session, const char *text, size_t length);
 
 /* BEGIN, BEGIN READ ONLY, COMMIT and ROLLBACK. REFUSED by the engine; NO_SESSION, NO_MEMORY, REPLY_WAITS, CLOSED,
- * BAD_REQUEST. */
+ * BAD_REQUEST. With a journal also IO_ERROR, and of a COMMIT NOT_KEPT. */
 static inline skewguard_status skewguard_begin(skewguard *db, uint64_t session);
 static inline skewguard_status skewguard_begin_read_only(skewguard *db, uint64_t session);
 static inline skewguard_status skewguard_commit(skewguard *db, uint64_t session);
@@ -678,6 +680,8 @@ static inline const char *skewguard_fault_text(int number)
         return "the transaction is READ ONLY";
     case SKEWGUARD_FAULT_TOO_MANY_SESSIONS:
         return "there are as many sessions as may be open at once";
+    case SKEWGUARD_FAULT_NOT_KEPT:
+        return "the commit could not be kept in the journal: its transaction is open";
     default:
         return "another fault";
     }

@@ -281,6 +281,15 @@ impl Error {
             _ => false,
         }
     }
+
+    /// Whether a COMMIT that is answered so leaves its transaction open: there was no memory, or it could not be kept.
+    pub(crate) fn leaves_open(&self) -> bool {
+        match self {
+            Error::NoMemory => true,
+            Error::Refused(refusal) => refusal.fault == Fault::NotKept,
+            _ => false,
+        }
+    }
 }
 
 /// What a name is.
@@ -435,7 +444,26 @@ fn place_of(text: &str, offset: usize) -> (usize, usize) {
 
 #[cfg(test)]
 mod tests {
-    use super::place_of;
+    use super::{place_of, Error, Fault, Refusal};
+
+    fn refused(number: u32, sqlstate: &str, fault: Fault) -> Error {
+        Error::Refused(Box::new(Refusal {
+            number,
+            sqlstate: Some(sqlstate.to_string()),
+            fault,
+            report: String::new(),
+            explanation: String::new(),
+        }))
+    }
+
+    #[test]
+    fn a_commit_that_was_not_kept_leaves_its_transaction_open() {
+        let not_kept = refused(25, "58030", Fault::NotKept);
+        assert!(not_kept.leaves_open() && !not_kept.has_ended());
+        assert!(Error::NoMemory.leaves_open());
+        let full = refused(17, "54000", Fault::EpochFull);
+        assert!(full.has_ended() && !full.leaves_open());
+    }
 
     #[test]
     fn places_are_counted_in_characters() {

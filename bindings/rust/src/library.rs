@@ -523,13 +523,13 @@ impl Library {
         }
     }
 
-    /// Commits, and gives the commit's number. Its session is free but after want of memory.
+    /// Commits, and gives the commit's number. Its session is free, but where the transaction is still open.
     pub fn commit(&mut self, seat: &Seat) -> Result<u64, Error> {
         self.request.clear();
         add_number(&mut self.request, seat.session);
         let answer = self.event(Operation::Commit, "").map(|reply| Reader::new(reply).number());
-        match answer {
-            Err(Error::NoMemory) => {}
+        match &answer {
+            Err(error) if error.leaves_open() => {}
             Err(Error::ReplyLost) => self.lose(seat),
             _ => self.give_back(seat),
         }
@@ -789,9 +789,7 @@ fn opened(request: &[u8], journal: Option<&Path>) -> Result<*mut c_void, Error> 
             let invalid = Error::Journal(JournalFault::File { errno: EINVAL });
             let path = CString::new(path.as_os_str().as_bytes()).map_err(|_| invalid)?;
             // SAFETY: the same, and the path ends in a zero.
-            unsafe {
-                skewguard_journal_open(path.as_ptr(), request.as_ptr(), request.len(), &mut handle, &mut errno)
-            }
+            unsafe { skewguard_journal_open(path.as_ptr(), request.as_ptr(), request.len(), &mut handle, &mut errno) }
         }
     };
     match status {

@@ -396,15 +396,15 @@ impl<'m> Transaction<'m> {
         }
     }
 
-    /// Commits, and gives the number of the commit. The fault gives the transaction back where there was no memory;
-    /// any other has ended it.
+    /// Commits, and gives the number of the commit. The fault gives the transaction back where there was no memory, or
+    /// where the commit could not be kept (25); any other has ended it.
     pub fn commit(mut self) -> Result<u64, CommitFault<'m>> {
         let Some(seat) = self.seat.take() else {
             return Err(CommitFault { error: Error::Ended, transaction: None });
         };
         let answer = self.manager.ask(|library| library.commit(&seat));
         answer.map_err(|error| match error {
-            Error::NoMemory => {
+            error if error.leaves_open() => {
                 self.seat = Some(seat);
                 CommitFault { error, transaction: Some(self) }
             }
@@ -442,7 +442,7 @@ impl fmt::Debug for Transaction<'_> {
 pub struct CommitFault<'m> {
     /// Why.
     pub error: Error,
-    /// The transaction, as it was, where there was no memory. It may be committed again.
+    /// The transaction, as it was, where there was no memory or the commit could not be kept. It may be committed again.
     pub transaction: Option<Transaction<'m>>,
 }
 

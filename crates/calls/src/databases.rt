@@ -144,8 +144,7 @@ impl Database {
     /// # Errors
     ///
     /// Why the definitions are refused, or [`Refusal::NoMemory`].
-    pub fn new(alloc: Global, definitions: &[u8], limit: u64) -> Result<Database, Refusal>
-        requires within { limit ≤ 4294967295 }
+    pub fn new(alloc: Global, definitions: &[u8], limit: u32) -> Result<Database, Refusal>
         ensures begun { IfOk result (spec.IsBegun definitions.now limit) }
         ensures refused { IfErr result (spec.IsUnbegun definitions.now) }
     {

@@ -91,9 +91,8 @@ fn open_behind(
     base: usize,
     first: u64,
     declared: &View,
-    limit: u64,
+    limit: u32,
 ) -> Result<Ledger<JournalFile<Outbox>>, OpenFault>
-    requires within { limit ≤ 4294967295 }
     requires behind { base ≤ length file.now }
     ensures opened { IfOk result (λ ledger. spec.IsOpenedBehind file.now base first declared.now limit
         ledger.engine ledger.writer) }
@@ -111,9 +110,8 @@ fn open_sharing(
     base: usize,
     first: u64,
     declared: &View,
-    limit: u64,
+    limit: u32,
 ) -> Result<Ledger<JournalFile<Outbox>>, OpenFault>
-    requires within { limit ≤ 4294967295 }
     requires behind { base ≤ length file.now }
     ensures opened { IfOk result (λ ledger. spec.IsOpenedBehind file.now base first declared.now limit
         ledger.engine ledger.writer) }
@@ -144,10 +142,9 @@ impl Database {
     pub fn on_journal(
         alloc: Global,
         definitions: &[u8],
-        limit: u64,
+        limit: u32,
         file: &[u8],
     ) -> Result<Database, Response>
-        requires within { limit ≤ 4294967295 }
         ensures begun { IfOk result (spec.IsBegunOn definitions.now limit file.now) }
         ensures refused { IfErr result (spec.IsUnopened definitions.now file.now) }
     {
@@ -162,10 +159,9 @@ impl Database {
         alloc: Global,
         definitions: &[u8],
         declared: &View,
-        limit: u64,
+        limit: u32,
         file: &[u8],
     ) -> Result<Database, Response>
-        requires within { limit ≤ 4294967295 }
         ensures begun { IfOk result (spec.IsBegunOver definitions.now declared.now limit file.now) }
         ensures refused { IfErr result (spec.IsUnopenedOver definitions.now declared.now file.now) }
     {
@@ -184,9 +180,8 @@ impl Database {
         base: usize,
         first: u64,
         declared: &View,
-        limit: u64,
+        limit: u32,
     ) -> Result<Database, Response>
-        requires within { limit ≤ 4294967295 }
         requires behind { base ≤ length file.now }
         ensures begun { IfOk result (spec.IsBegunBehind file.now base first declared.now limit) }
         ensures refused { IfErr result (spec.IsUnrestored file.now base first declared.now) }

@@ -71,7 +71,7 @@ pub fn open(alloc: Global, request: &[u8]) -> Library
     if limit > MOST_COMMITS {
         return library_not_open(Response::Misused(Misuse::BadRequest));
     }
-    match Database::new(alloc, definitions, limit) {
+    match Database::new(alloc, definitions, limit as u32) {
         Ok(database) => Library {
             database: Some(database),
             outcome: Outcome::One(Response::Opened),
@@ -96,7 +96,7 @@ pub fn open_journal(alloc: Global, request: &[u8], file: &[u8]) -> Library
     if limit > MOST_COMMITS {
         return library_not_open(Response::Misused(Misuse::BadRequest));
     }
-    match Database::on_journal(alloc, definitions, limit, file) {
+    match Database::on_journal(alloc, definitions, limit as u32, file) {
         Ok(database) => Library {
             database: Some(database),
             outcome: Outcome::One(Response::Opened),

@@ -128,8 +128,8 @@ seats_set seats place txn None = seats
 seats_set seats place txn (Some seat) = slice_set seats place (record seat { txn = txn })
 
 -- the seats with this transaction, or none, in the one at a place
-abbrev pub seats_with : List Seat → ℕ → Option OpenTransaction → List Seat
-seats_with seats place txn = seats_set seats place txn (slice_get seats place)
+abbrev pub with_txn_at : List Seat → ℕ → Option OpenTransaction → List Seat
+with_txn_at seats place txn = seats_set seats place txn (slice_get seats place)
 
 -- the commits after a session has left: its open transaction, if it has one, is rolled back
 abbrev pub core_without : CoreState → Option OpenTransaction → CoreState
@@ -159,7 +159,7 @@ abbrev pub after_at : EngineState → List ℕ → Event → Option ℕ → Answ
 after_at now session event None answer = now
 after_at now session event (Some place) answer = record {
   core = core_after now.core session event (txn_of (slice_get now.seats place)) answer;
-  seats = seats_with now.seats place (txn_after now.core event (txn_of (slice_get now.seats place)));
+  seats = with_txn_at now.seats place (txn_after now.core event (txn_of (slice_get now.seats place)));
 }
 
 -- an answer, or that there was no memory for one

@@ -10,7 +10,7 @@ ghost use Rattle.alone.specs.Alone.{IsSound};
 ghost use Rattle.alone.specs.Commits.{HasNoWriteConflict, IsLog};
 ghost use Rattle.alone.specs.Epoch.{IsEpoch};
 ghost use Rattle.alone.specs.Order.{least_out};
-ghost use Rattle.txn.specs.Transactions.{outcome_of, transaction_at_begin, truth_of};
+ghost use Rattle.txn.specs.Transactions.{outcome_of, reads_only, transaction_at_begin, truth_of};
 ghost use Rattle.commit.specs.Cores.{IsCommitAnswer, IsLive, IsSerializable, IsUncommitted, core_after_commit, core_after_end, core_after_finish, locks_of, log_of, newest_tables, order_of, pending_txn, reach_with, reads_asked, record_of, record_with, without_prepared, with_begun, with_commit, with_prepared};
 ghost use Rattle.commit.specs.Decisions.{IsDecision, IsJudgment};
 ghost use Rattle.commit.specs.Keepers.{IsMade, was_kept};
@@ -27,14 +27,14 @@ use siread::LockTable;
 use std::alloc::{AllocError, Global};
 use std::marker::Model;
 use std::mem;
-use txn::{CloseFailure, ClosedTransaction, Parts, Txn, verdict_on};
+use txn::{Access, CloseFailure, ClosedTransaction, Parts, Txn, verdict_on};
 use value::{Refusal, Text, Truth};
 
 /// The committed transactions: the tables before the first and after the last, a record of each, their serial
 /// order, and the commits that were refused; and what is needed of the open ones. Between a [`Core::prepare`] that
 /// was accepted and the [`Core::finish`] or [`Core::cancel`] that ends it, a commit is prepared.
 pub struct Core {
-    limit: u64,
+    limit: u32,
     loaded: View,
     newest: View,
     records: Vec<Record>,
@@ -103,11 +103,9 @@ pub struct CommitFailure {
 }
 
 impl Core {
-    /// No commit yet, over tables on which no assertion is false, and at most so many commits, from none to
-    /// 4,294,967,295.
-    pub fn new(alloc: Global, limit: u64, loaded: View) -> Result<Core, AllocError>
+    /// No commit yet, over tables on which no assertion is false, and at most so many commits.
+    pub fn new(alloc: Global, limit: u32, loaded: View) -> Result<Core, AllocError>
         requires sound { IsSound loaded.declared loaded.state }
-        requires within { limit ≤ 4294967295 }
         ensures { IfOk result (λ core. core ≡ empty_core limit loaded) }
     {
         Ok(Core {
@@ -125,44 +123,35 @@ impl Core {
         })
     }
 
-    /// A transaction begins on the newest tables.
+    /// A transaction begins on the newest tables. The transactions that have committed hold nothing of these any more, so
+    /// that they can settle.
     ///
     /// # Errors
     ///
     /// [`Refusal::EpochFull`] exactly where 2^64 - 1 transactions have begun in the epoch, since each has a number of
     /// its own; or [`Refusal::NoMemory`]. Nothing has changed then.
-    pub fn begin(&mut self) -> Result<Txn, Refusal>
+    pub fn begin(&mut self, access: Access) -> Result<Txn, Refusal>
         requires idle { self.old.prepared ≡ None }
         ensures begun { IfOk result (λ txn.
-            txn ≡ transaction_at_begin self.old.live.begun (length self.old.records) false (newest_tables self.old)) }
+            txn ≡ transaction_at_begin self.old.live.begun (length self.old.records) (reads_only access)
+            (newest_tables self.old)) }
         ensures live { IfOk result (λ txn. IsLive self.new txn) }
-        ensures after { OnOk result (self.new ≡ with_begun false self.old) }
+        ensures after { OnOk result (self.new ≡ with_begun (reads_only access) self.old) }
         ensures room { OnOk result (has_begin_number self.old.live ≡ true) }
         ensures refused { IfErr result (λ refusal. refusal ≢ NoMemory
             → (refusal ≡ EpochFull) × (has_begin_number self.old.live ≡ false)) }
         ensures same { OnErr result (self.new ≡ self.old) }
     {
-        self.begin_as(false)
-    }
-
-    /// A transaction that is read only begins on the newest tables: its INSERT, UPDATE and DELETE are refused, and it
-    /// may stand earlier in the serial order, so that fewer commits are refused for it.
-    ///
-    /// # Errors
-    ///
-    /// Those of [`Core::begin`].
-    pub fn begin_read_only(&mut self) -> Result<Txn, Refusal>
-        requires idle { self.old.prepared ≡ None }
-        ensures begun { IfOk result (λ txn.
-            txn ≡ transaction_at_begin self.old.live.begun (length self.old.records) true (newest_tables self.old)) }
-        ensures live { IfOk result (λ txn. IsLive self.new txn) }
-        ensures after { OnOk result (self.new ≡ with_begun true self.old) }
-        ensures room { OnOk result (has_begin_number self.old.live ≡ true) }
-        ensures refused { IfErr result (λ refusal. refusal ≢ NoMemory
-            → (refusal ≡ EpochFull) × (has_begin_number self.old.live ≡ false)) }
-        ensures same { OnErr result (self.new ≡ self.old) }
-    {
-        self.begin_as(true)
+        self.settle();
+        let alloc = *self.records.allocator();
+        let snapshot = self.records.len() as u64;
+        let number = self.live.next_begin_number();
+        let txn = Txn::begin(alloc, number, snapshot, access, &self.newest)?;
+        if let Err(refusal) = self.live.begin(snapshot, access.is_read_only()) {
+            drop(txn.abandon());
+            return Err(refusal);
+        }
+        Ok(txn)
     }
 
     /// COMMIT (ISO/IEC 9075:1992, commit statement). The transaction is the next commit, unless an assertion is
@@ -329,9 +318,8 @@ impl Core {
     }
 
     /// The most commits that there may be.
-    pub fn limit(&self) -> u64
-        ensures value { result ≡ self.now.limit }
-        ensures small { result ≤ 4294967295 }
+    pub fn limit(&self) -> u32
+        ensures { result ≡ self.now.limit }
     {
         self.limit
     }
@@ -450,37 +438,6 @@ impl Core {
 }
 
 impl Core {
-    /// A transaction, read only or not, begins on the newest tables. The transactions that have committed hold nothing
-    /// of these any more, so that they can settle.
-    pub(crate) fn begin_as(&mut self, read_only: bool) -> Result<Txn, Refusal>
-        requires idle { self.old.prepared ≡ None }
-        ensures begun { IfOk result (λ txn.
-            txn ≡ transaction_at_begin self.old.live.begun (length self.old.records) read_only
-            (newest_tables self.old)) }
-        ensures live { IfOk result (λ txn. IsLive self.new txn) }
-        ensures after { OnOk result (self.new ≡ with_begun read_only self.old) }
-        ensures room { OnOk result (has_begin_number self.old.live ≡ true) }
-        ensures refused { IfErr result (λ refusal. refusal ≢ NoMemory
-            → (refusal ≡ EpochFull) × (has_begin_number self.old.live ≡ false)) }
-        ensures same { OnErr result (self.new ≡ self.old) }
-    {
-        self.settle();
-        let alloc = *self.records.allocator();
-        let snapshot = self.records.len() as u64;
-        let txn = Txn::begin(
-            alloc,
-            self.live.next_begin_number(),
-            snapshot,
-            read_only,
-            &self.newest,
-        )?;
-        if let Err(refusal) = self.live.begin(snapshot, read_only) {
-            drop(txn.abandon());
-            return Err(refusal);
-        }
-        Ok(txn)
-    }
-
     /// The newest tables have less for the next version to copy then, and all is as it was.
     fn settle(&mut self)
         ensures { self.new ≡ self.old }
@@ -499,7 +456,7 @@ impl Core {
             let refusal = refusal.copy()?;
             return Ok(Decision::Refused(refusal));
         }
-        if self.records.as_slice().len() as u64 == self.limit {
+        if self.records.as_slice().len() as u64 == u64::from(self.limit) {
             return Ok(Decision::Refused(Refusal::EpochFull));
         }
         let decision = self.judge(closed)?;

@@ -66,16 +66,15 @@ pub struct Outcome {
 
 impl Engine {
     /// Before the first of these events, whose sessions get a seat each, over tables on which no assertion is
-    /// false, with at most so many commits, from none to 4,294,967,295.
+    /// false, with at most so many commits.
     #[tactic(auto, using(crate::proofs::Seating::enough))]
     pub fn new(
         alloc: Global,
-        limit: u64,
+        limit: u32,
         loaded: View,
         lines: &[ScriptLine],
     ) -> Result<Engine, AllocError>
         requires sound { IsSound loaded.declared loaded.state }
-        requires within { limit ≤ 4294967295 }
         ensures { IfOk result (λ engine. engine ≡ beginning limit loaded lines.now) }
     {
         // (a script has no more sessions than lines)
@@ -88,13 +87,12 @@ impl Engine {
     /// As [`Engine::new`]; or none where the events are of more than so many sessions, and the tables are let go then.
     pub fn with_few_sessions(
         alloc: Global,
-        limit: u64,
+        limit: u32,
         loaded: View,
         lines: &[ScriptLine],
         most: usize,
     ) -> Result<Option<Engine>, AllocError>
         requires sound { IsSound loaded.declared loaded.state }
-        requires within { limit ≤ 4294967295 }
         ensures engine { IfOk result (λ made. IfSome made (λ engine. engine ≡ beginning limit loaded lines.now)) }
         ensures few { IfOk result (λ made. is_some made ≡ nat_le (length (seats_with_all [] lines.now)) most) }
     {
@@ -206,17 +204,16 @@ impl Engine {
 }
 
 /// Answers events of any sessions, one after the other, from tables on which no assertion is false, with at most so
-/// many commits, from none to 4,294,967,295. Should the answers themselves find no memory, the run ends there, and what
+/// many commits. Should the answers themselves find no memory, the run ends there, and what
 /// is answered is the beginning of the list. An error is that memory ran out before the first event, or behind the last
 /// for the truths.
 pub fn run(
     alloc: Global,
-    limit: u64,
+    limit: u32,
     loaded: View,
     lines: &[ScriptLine],
 ) -> Result<Outcome, AllocError>
     requires sound { IsSound loaded.declared loaded.state }
-    requires within { limit ≤ 4294967295 }
     ensures within { IfOk result (λ outcome. length outcome.answers.items ≤ length lines.now) }
     ensures answers { IfOk result (λ outcome.
         AreAnswers (beginning limit loaded lines.now) (take (length outcome.answers.items) lines.now)

@@ -96,12 +96,11 @@ impl Core {
     }
 }
 
-/// Epochs one after the other, each with at most so many commits, from none to 4,294,967,295. The first begins with
+/// Epochs one after the other, each with at most so many commits. The first begins with
 /// these tables, and each other with those that the one before it left; the assertions change first. They end at the
 /// first whose assertions are refused, for what [`readmit`] answers, or where there is no memory: with
 /// [`Refusal::NoMemory`], behind the answers that were found room for.
-pub fn run_epochs(alloc: Global, limit: u64, loaded: &View, epochs: &[Epoch]) -> Epochs
-    requires within { limit ≤ 4294967295 }
+pub fn run_epochs(alloc: Global, limit: u32, loaded: &View, epochs: &[Epoch]) -> Epochs
     ensures outcomes { AreOutcomes limit loaded.now epochs.now result.outcomes.items }
     ensures end { IsEnd loaded.now epochs.now result.outcomes.items result.refused }
 {
@@ -132,12 +131,11 @@ fn end_early(outcomes: Vec<Outcome>, refusal: Refusal) -> Epochs
 /// One epoch more; whether each of its events was answered.
 fn run_next(
     alloc: Global,
-    limit: u64,
+    limit: u32,
     loaded: &View,
     epoch: &Epoch,
     outcomes: &mut Vec<Outcome>,
 ) -> Result<bool, Refusal>
-    requires within { limit ≤ 4294967295 }
     ensures more { IfOk result (IsOneMore limit loaded.now epoch.now outcomes.old.items outcomes.new.items) }
     ensures same { OnErr result (outcomes.new.items ≡ outcomes.old.items) }
     ensures refused { IfErr result (λ refusal. refusal ≢ NoMemory

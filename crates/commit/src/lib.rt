@@ -35,7 +35,7 @@
 //! first field changes.
 //!
 //! What the layer above may rest on: the contracts of [`Engine::answer`], [`Core::commit`] and [`run`], and that law.
-//! What it owes: tables that are admitted, and a limit of at most 4,294,967,295 commits. With a limit of 0 no commit is
+//! What it owes: tables that are admitted, and how many commits there may be at most. With a limit of 0 no commit is
 //! accepted: each COMMIT on whose own view no assertion is false is answered that the epoch is full.
 #![tactic(auto)]
 

@@ -2,6 +2,7 @@
 
 ghost use Rattle.std.specs.Prelude.{◌≡◌, ◌<◌, ◌+◌, [], false, true, length, nat_le, is_none, is_some, IfSome, IfOk, OnErr, OnOk, Some, None};
 ghost use Rattle.value.specs.Ordered.{HoldsOf};
+ghost use Rattle.txn.specs.Transactions.{reads_only};
 ghost use Rattle.commit.specs.Cores.{IsLive};
 ghost use Rattle.syntax.specs.declared.statements.Event.TheVariants.{Commit, Rollback, Run};
 ghost use Rattle.commit.specs.Events.{IsReply, begin_answer, core_after, core_after_begin, found_no_memory, rollback_answer, run_answer, seat_of, takes_memory, txn_after, txn_after_begin, txn_with};
@@ -14,7 +15,7 @@ use alone::Answer;
 use std::alloc::{AllocError, Global};
 use std::mem;
 use syntax::{Event, ScriptLine, Statement};
-use txn::Txn;
+use txn::{Access, Txn};
 use value::{Refusal, Text};
 
 /// A session, with its open transaction, if one is open. One that is let go is rolled back.
@@ -118,8 +119,8 @@ pub fn answer_event(
     ensures live { HoldsOf (IsLive core.new) seat.new.txn }
 {
     match &line.event {
-        Event::Begin => begin(core, seat, false),
-        Event::BeginReadOnly => begin(core, seat, true),
+        Event::Begin => begin(core, seat, Access::ReadWrite),
+        Event::BeginReadOnly => begin(core, seat, Access::ReadOnly),
         Event::Run(statement) => run(seat, statement),
         Event::Commit => commit(core, seat, &line.session),
         Event::Rollback => Ok(roll_back(core, seat)),
@@ -153,14 +154,15 @@ pub fn answer_event_kept<K: Keeper>(
 }
 
 /// BEGIN, or BEGIN READ ONLY: a transaction begins on the newest tables.
-fn begin(core: &mut Core, seat: &mut Seat, read_only: bool) -> Result<Answer, AllocError>
+fn begin(core: &mut Core, seat: &mut Seat, access: Access) -> Result<Answer, AllocError>
     requires live { HoldsOf (IsLive core.old) seat.old.txn }
     requires idle { core.old.prepared ≡ None }
     ensures answered { IfOk result (λ answer. answer ≡ begin_answer core.old seat.old.txn) }
     ensures known { IfOk result (λ answer. found_no_memory answer ≡ false) }
     ensures takes { OnErr result (is_none seat.old.txn ≡ true) }
-    ensures commits { OnOk result (core.new ≡ core_after_begin core.old read_only seat.old.txn) }
-    ensures seat { OnOk result (seat.new ≡ record seat.old { txn = txn_after_begin core.old read_only seat.old.txn }) }
+    ensures commits { OnOk result (core.new ≡ core_after_begin core.old (reads_only access) seat.old.txn) }
+    ensures seat { OnOk result (seat.new
+        ≡ record seat.old { txn = txn_after_begin core.old (reads_only access) seat.old.txn }) }
     ensures same { OnErr result ((core.new ≡ core.old) × (seat.new ≡ seat.old)) }
     ensures live { HoldsOf (IsLive core.new) seat.new.txn }
 {
@@ -168,7 +170,7 @@ fn begin(core: &mut Core, seat: &mut Seat, read_only: bool) -> Result<Answer, Al
         return Ok(Answer::Refused(Refusal::TransactionOpen));
     }
     let snapshot = core.records().len() as u64;
-    match core.begin_as(read_only) {
+    match core.begin(access) {
         Ok(txn) => {
             set_txn(seat, Some(txn));
             Ok(Answer::Begun(snapshot))

@@ -6,7 +6,7 @@ ghost use Rattle.journal.specs.Fitting.{FitsChange, FitsEntry, FitsRow, FitsValu
 ghost use Rattle.journal.specs.Spelling.{lines};
 ghost use Rattle.value.specs.declared.values.Value.TheVariants.{Int};
 ghost use Rattle.durable.specs.declared.faults.KeepFault.TheVariants.{Shut};
-ghost use Rattle.durable.specs.Batches.{HasAdded, IsSameBatch, IsWaiting, none_behind};
+ghost use Rattle.durable.specs.Batches.{HasAdded, IsSameBatch, IsWaiting, entries_waiting, none_behind};
 
 use crate::faults::KeepFault;
 use journal::Lines;
@@ -41,6 +41,13 @@ impl Batch {
             lines: Lines::new(alloc),
             line: Lines::new(alloc),
         }
+    }
+
+    /// Whether none waits.
+    pub fn is_empty(&self) -> bool
+        ensures { result ≡ true → entries_waiting self.now ≡ [] }
+    {
+        self.lines.is_empty()
     }
 
     /// How many commits wait.

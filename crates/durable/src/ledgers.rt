@@ -26,7 +26,7 @@ pub struct Ledger<D: Device> {
 
 impl<D: Device> Ledger<D> {
     /// Lets commits share syncs from now on: each counts at once, and is on the disk when [`Ledger::sync`] has
-    /// returned. No answer may go out before.
+    /// returned. No answer may go out before, which an [`Outlet`](crate::Outlet) sees to.
     #[tactic(auto, using(crate::proofs::Flushing::shared))]
     pub fn share_syncs(&mut self)
         requires ready { IsReadyFor D.seen D.may_leave
@@ -75,7 +75,7 @@ impl<D: Device> Ledger<D> {
             (length self.new.engine.core.records + 1) self.new.writer }
     {
         let core = self.engine.core();
-        if (core.records().len() as u64) < core.limit() {
+        if (core.records().len() as u64) < u64::from(core.limit()) {
             return;
         }
         if self.engine.checkpoint(&[], &[]).is_ok() {

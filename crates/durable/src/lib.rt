@@ -23,6 +23,7 @@ mod images;
 mod laws;
 mod ledgers;
 mod opening;
+mod outlets;
 mod restoring;
 mod writers;
 
@@ -32,5 +33,6 @@ pub use images::spell_image;
 pub use laws::{a_journal_is_restored, an_image_is_restored, what_was_kept_is_restored};
 pub use ledgers::Ledger;
 pub use opening::restore_tables;
+pub use outlets::Outlet;
 pub use restoring::restore;
 pub use writers::Writer;

@@ -85,11 +85,10 @@ impl<D: Device + Drop> Ledger<D> {
         bytes: &[u8],
         first: u64,
         declared: &View,
-        limit: u64,
+        limit: u32,
     ) -> Result<Ledger<D>, OpenFault>
         requires read { bytes.now ≡ D.seen device }
         requires on_disk { Only (D.seen device) (D.may_leave device) }
-        requires within { limit ≤ 4294967295 }
         ensures ready { IfOk result (λ ledger.
             IsReadyFor D.seen D.may_leave 1 ledger.writer) }
         ensures begun { IfOk result (λ ledger.

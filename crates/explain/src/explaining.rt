@@ -47,12 +47,10 @@ pub fn explain_into<W: Write>(
     alloc: Global,
     defs: &[u8],
     script: &[u8],
-    max_commits: u64,
+    max_commits: u32,
     event: Option<u64>,
     out: &mut W,
-) -> Result<(), ExplainFault>
-    requires within { max_commits ≤ 4294967295 }
-{
+) -> Result<(), ExplainFault> {
     let mut history = History::new(alloc);
     match read_history(alloc, defs, script, max_commits, &mut history) {
         Ok(()) => explain_history(alloc, &history, defs, script, event, out),

@@ -9,7 +9,7 @@ use sqlite_items::Items;
 use std::alloc::{AllocError, Global};
 use std::mem;
 use syntax::{Event, Mode, ScriptLine, Statement};
-use txn::{CloseFailure, ClosedTransaction, Txn, copy_changes};
+use txn::{Access, CloseFailure, ClosedTransaction, Txn, copy_changes};
 use value::Refusal;
 
 /// A session's open transaction, run beside the engine's.
@@ -36,8 +36,8 @@ pub fn follow(
         Answer::Refused(Refusal::NoMemory) => Err(AllocError),
         Answer::Begun(snapshot) => {
             let snapshot = *snapshot;
-            let read_only = matches!(line.event, Event::BeginReadOnly);
-            match Txn::begin(alloc, 0, snapshot, read_only, core.newest()) {
+            let access = access_of(&line.event);
+            match Txn::begin(alloc, 0, snapshot, access, core.newest()) {
                 Ok(txn) => follow_begin(alloc, txn, mirror, event, happening, transactions),
                 Err(error) => Err(error),
             }
@@ -46,6 +46,14 @@ pub fn follow(
             let commits = core.records().len() as u64;
             follow_inside(alloc, commits, mirror, event, line, happening, transactions)
         }
+    }
+}
+
+/// The access mode in which a transaction begins.
+fn access_of(event: &Event) -> Access {
+    match event {
+        Event::BeginReadOnly => Access::ReadOnly,
+        _ => Access::ReadWrite,
     }
 }
 

@@ -22,11 +22,9 @@ pub fn read_history(
     alloc: Global,
     defs: &[u8],
     script: &[u8],
-    max_commits: u64,
+    max_commits: u32,
     history: &mut History,
-) -> Result<(), ProgramFault>
-    requires within { max_commits ≤ 4294967295 }
-{
+) -> Result<(), ProgramFault> {
     let (engine, lines) = begin_run(alloc, defs, script, max_commits)?;
     let mut engine = engine;
     let mut mirrors = Vec::new(alloc);

@@ -11,6 +11,7 @@ use std::alloc::Global;
 use std::fmt::Debug;
 use std::sync::Wait;
 use std::test::Fail;
+use txn::Access;
 use value::Refusal;
 
 /// So many bytes hold all that is shown in these tests: asked for at once, so that few allocations are their own.
@@ -85,9 +86,9 @@ fn begin_again<N: Named, R: Wait>(
     manager: &Manager<N>,
     session: &mut Session<N>,
 ) -> Result<Txn<N>, Fail> {
-    match manager.begin(rt, session) {
+    match manager.begin(rt, session, Access::ReadWrite) {
         Ok(txn) => Ok(txn),
-        Err(Refusal::NoMemory) => match manager.begin(rt, session) {
+        Err(Refusal::NoMemory) => match manager.begin(rt, session, Access::ReadWrite) {
             Ok(txn) => Ok(txn),
             Err(_) => Err(for_ever()),
         },

@@ -16,6 +16,7 @@ use std::marker::Brand;
 use std::process::Abort;
 use std::sync::Wait;
 use std::test::Fail;
+use txn::Access;
 use value::{Refusal, Text, Truth};
 
 /// One account.
@@ -131,7 +132,7 @@ fn are_strangers<N: Named, R: Wait + Abort>(
     mut seat: Seat<N>,
 ) -> Result<(), Fail> {
     let mut session = manager.session(rt, seat.session.name())?;
-    assert!(rt; is_stranger(manager.begin(rt, &mut seat.session)));
+    assert!(rt; is_stranger(manager.begin(rt, &mut seat.session, Access::ReadWrite)));
     let Some(txn) = seat.txn.take() else {
         return Err(Fail::from("no transaction"));
     };

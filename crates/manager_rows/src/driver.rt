@@ -13,6 +13,7 @@ use std::process::Abort;
 use std::sync::Wait;
 use std::test::Fail;
 use syntax::{Event, ScriptLine, Statement};
+use txn::Access;
 use value::{Refusal, Text};
 
 /// A session with its open transaction, if one is open. One that is let go is abandoned.
@@ -176,8 +177,8 @@ fn answer<N: Named, R: Wait>(
     receipts: &mut Vec<Receipt<N>>,
 ) -> Result<Answer, Fail> {
     match event {
-        Event::Begin => begin(rt, manager, seat, false),
-        Event::BeginReadOnly => begin(rt, manager, seat, true),
+        Event::Begin => begin(rt, manager, seat, Access::ReadWrite),
+        Event::BeginReadOnly => begin(rt, manager, seat, Access::ReadOnly),
         Event::Run(statement) => Ok(run(seat, statement)),
         Event::Commit => commit(rt, manager, seat, receipts),
         Event::Rollback => Ok(roll_back(rt, manager, seat)),
@@ -189,21 +190,16 @@ fn begin<N: Named, R: Wait>(
     rt: &R,
     manager: &Manager<N>,
     seat: &mut Seat<N>,
-    read_only: bool,
+    access: Access,
 ) -> Result<Answer, Fail> {
     if seat.txn.is_some() {
         return Ok(Answer::Refused(Refusal::TransactionOpen));
     }
-    let begun = if read_only {
-        manager.begin_read_only(rt, &mut seat.session)
-    } else {
-        manager.begin(rt, &mut seat.session)
-    };
-    match begun {
+    match manager.begin(rt, &mut seat.session, access) {
         Ok(txn) => {
             let (snapshot, is_read_only) = (txn.snapshot(), txn.is_read_only());
             set_txn(seat, Some(txn));
-            if is_read_only == read_only {
+            if is_read_only == access.is_read_only() {
                 Ok(Answer::Begun(snapshot))
             } else {
                 Err(Fail::from("a transaction of the other kind"))

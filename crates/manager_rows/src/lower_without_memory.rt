@@ -26,7 +26,7 @@ use std::process::Abort;
 use std::test::Fail;
 use syntax::{Event, Mode, ScriptLine};
 use table::{Aggregate, Change, Cond, Expr, Row, Slots, bound, eval, is_bounded};
-use txn::{CloseFailure, ClosedTransaction, Txn, find_first_false};
+use txn::{Access, CloseFailure, ClosedTransaction, Txn, find_first_false};
 use value::{Comparison, Root, Text, Truth, Value, compare, order};
 
 #[test]
@@ -265,7 +265,7 @@ fn run(core: &mut Core, event: &Event) -> Result<Txn, Fail>
     let Event::Run(statement) = event else {
         return Err(Fail::from("no statement"));
     };
-    let mut txn = core.begin()?;
+    let mut txn = core.begin(Access::ReadWrite)?;
     match txn.execute(statement) {
         Ok(reply) => {
             drop(reply);

@@ -56,7 +56,7 @@ pub struct Opening {
 pub fn make_opening(
     alloc: Global,
     more: &str,
-    commits: u64,
+    commits: u32,
     sessions: u64,
 ) -> Result<Opening, Fail> {
     let definitions = defined(alloc, more)?;

@@ -157,7 +157,7 @@ fn epoch_full(rt: HostRuntime) -> Result<(), Fail> {
 
 #[test]
 fn limits_have_their_ranges(rt: HostRuntime) {
-    for (commits, sessions) in [(0, 1), (1, 0), (4_294_967_296, 1), (1, 65_537)] {
+    for (commits, sessions) in [(0, 1), (1, 0), (1, 65_537)] {
         assert!(rt;
             Limits::new(commits, sessions).is_none(),
             "{commits} commits, {sessions} sessions"

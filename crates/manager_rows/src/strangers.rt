@@ -10,6 +10,7 @@ use std::marker::Brand;
 use std::process::Abort;
 use std::sync::Wait;
 use std::test::Fail;
+use txn::Access;
 use value::{Refusal, Text};
 
 #[test]
@@ -63,8 +64,8 @@ fn meet<N: Named, R: Wait + Abort>(
     let name = Text::from_str(alloc, "S")?;
     let mut mine = first.session(rt, &name)?;
     let mut theirs = second.session(rt, &name)?;
-    assert!(rt; is_stranger(second.begin(rt, &mut mine)));
-    let txn = first.begin(rt, &mut mine)?;
+    assert!(rt; is_stranger(second.begin(rt, &mut mine, Access::ReadWrite)));
+    let txn = first.begin(rt, &mut mine, Access::ReadWrite)?;
     // A session and a transaction of the first; a session of its own, and the transaction; and the other way round.
     let txn = refused(second.commit(rt, &mut mine, txn))?;
     let txn = refused(second.commit(rt, &mut theirs, txn))?;

@@ -12,6 +12,7 @@ use std::process::Abort;
 use std::sync::Wait;
 use std::test::Fail;
 use syntax::{Event, ScriptLine};
+use txn::Access;
 use value::{Refusal, Text, Truth};
 
 /// Someone is on call in each shift, when a transaction ends.
@@ -47,7 +48,7 @@ fn commits_in_vain<N: Named, R: Wait + Abort>(
     cover: &Text,
 ) -> Result<(), Fail> {
     let mut session = manager.session(rt, cover)?;
-    let mut txn = manager.begin(rt, &mut session)?;
+    let mut txn = manager.begin(rt, &mut session, Access::ReadWrite)?;
     for line in lines {
         insert(rt, &mut txn, &line.event);
     }

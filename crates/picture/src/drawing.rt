@@ -29,11 +29,9 @@ pub fn picture_into<W: Write>(
     alloc: Global,
     defs: &[u8],
     script: &[u8],
-    max_commits: u64,
+    max_commits: u32,
     out: &mut W,
-) -> Result<(), ProgramFault>
-    requires within { max_commits ≤ 4294967295 }
-{
+) -> Result<(), ProgramFault> {
     let mut history = History::new(alloc);
     match read_history(alloc, defs, script, max_commits, &mut history) {
         Ok(()) => write_picture(alloc, &history, script, out),

@@ -1,11 +1,13 @@
 //! The SQL that is the same for all rules.
 
 /// What stands at the head: one transaction, into the first schema of the search path. Functions keep that path, with
-/// temporary tables behind it, so that none of these is ever taken for a table of the rules.
+/// temporary tables behind it, so that none of these is ever taken for a table of the rules. The bytes of texts are
+/// UTF-8, whatever the client's locale says.
 pub const HEAD: &str =
     r#"-- Tables, rows and rules for PostgreSQL 15 or later, as skewguard postgresql prints them.
 -- Load them into an empty schema, the first of the search path: psql -v ON_ERROR_STOP=1 -f FILE
 BEGIN;
+SET LOCAL client_encoding = 'UTF8';
 SELECT set_config('search_path', quote_ident(current_schema()) || ', pg_temp', true);
 "#;
 

@@ -85,11 +85,10 @@ pub fn replay_into<W: Write>(
     alloc: Global,
     defs: &[u8],
     script: &[u8],
-    max_commits: u64,
+    max_commits: u32,
     out: &mut W,
 ) -> Result<(), ProgramFault>
     requires some { 1 ≤ max_commits }
-    requires within { max_commits ≤ 4294967295 }
     ensures written { OnOk result
         (WritesReport defs.now script.now max_commits (W.contents out.old) (W.contents out.new)) }
     ensures refused { IfErr result (IsFirstFault defs.now script.now) }
@@ -114,9 +113,8 @@ pub fn begin_run(
     alloc: Global,
     defs: &[u8],
     script: &[u8],
-    limit: u64,
+    limit: u32,
 ) -> Result<(Engine, Items<ScriptLine>), ProgramFault>
-    requires within { limit ≤ 4294967295 }
     ensures begun { IfOk result (λ made. IsBeginning defs.now script.now limit made.0 made.1) }
     ensures refused { IfErr result (IsFirstFault defs.now script.now) }
     ensures before { IfErr result (λ fault. is_before_the_run fault ≡ true) }
@@ -135,12 +133,11 @@ pub fn begin_run(
 /// The engine before the first of some events, if they are of 256 sessions or fewer.
 fn seat_sessions(
     alloc: Global,
-    limit: u64,
+    limit: u32,
     view: View,
     lines: &[ScriptLine],
 ) -> Result<Engine, Refusal>
     requires sound { IsSound view.declared view.state }
-    requires within { limit ≤ 4294967295 }
     ensures begun { IfOk result (λ engine. engine ≡ beginning limit view lines.now) }
     ensures few { IfOk result (λ _. HasFewSessions lines.now) }
     ensures refused { IfErr result (λ refusal.

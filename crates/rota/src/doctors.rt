@@ -1,7 +1,7 @@
 //! A doctor's wish to go off call, and who is on call.
 
 use alone::Reply;
-use session::{Manager, Named, Receipt, Session, release, release_refused};
+use session::{Access, Manager, Named, Receipt, Session, release, release_refused};
 use std::sync::Wait;
 use syntax::Statement;
 use value::{Refusal, Value};
@@ -59,7 +59,7 @@ fn attempt<N: Named, R: Wait>(
     session: &mut Session<N>,
     wish: &Statement,
 ) -> Result<Option<Ending<N>>, Refusal> {
-    let mut txn = manager.begin(rt, session)?;
+    let mut txn = manager.begin(rt, session, Access::ReadWrite)?;
     if let Err(refusal) = txn.execute(wish) {
         release(rt, manager, txn);
         return match refusal {
@@ -88,7 +88,7 @@ pub fn run_once<N: Named, R: Wait>(
     session: &mut Session<N>,
     statement: &Statement,
 ) -> Result<Reply, Refusal> {
-    let mut txn = manager.begin(rt, session)?;
+    let mut txn = manager.begin(rt, session, Access::ReadWrite)?;
     let reply = match txn.execute(statement) {
         Ok(reply) => reply,
         Err(refusal) => {

@@ -1,6 +1,6 @@
 -- What limits are within.
 use Rattle.std.proofs.Common.{◌≡◌, ◌<◌, ◌≤◌, ℕ, true, arith}
-use Rattle.std.proofs.lemmas.Bool.{and_parts, leb-true, ltb-true}
+use Rattle.std.proofs.lemmas.Bool.{and_parts, ltb-true}
 use Rattle.session.specs.Limits.{are_limits}
 
 pub some_commits : (commits sessions : ℕ) → are_limits commits sessions ≡ true → 1 ≤ commits
@@ -8,14 +8,8 @@ some_commits commits sessions h =
     let p = and_parts _ _ h in
     let above : 0 < commits = ltb-true _ _ p.0 in omega (arith, above)
 
-pub most_commits : (commits sessions : ℕ) → are_limits commits sessions ≡ true → commits ≤ 4294967295
-most_commits commits sessions h =
-    let p = and_parts _ _ h in
-    let q = and_parts _ _ p.1 in leb-true _ _ q.0
-
 pub some_sessions : (commits sessions : ℕ) → are_limits commits sessions ≡ true → 1 ≤ sessions
 some_sessions commits sessions h =
     let p = and_parts _ _ h in
     let q = and_parts _ _ p.1 in
-    let r = and_parts _ _ q.1 in
-    let above : 0 < sessions = ltb-true _ _ r.0 in omega (arith, above)
+    let above : 0 < sessions = ltb-true _ _ q.0 in omega (arith, above)

@@ -9,4 +9,4 @@ pub record LimitsState : Type 0 where
 -- whether they are within their ranges
 abbrev pub are_limits : (commits sessions : ℕ) → Bool
 are_limits commits sessions =
-    nat_lt 0 commits && (nat_le commits 4294967295 && (nat_lt 0 sessions && nat_le sessions 65536))
+    nat_lt 0 commits && (nat_lt 0 sessions && nat_le sessions 65536)

@@ -10,7 +10,7 @@ ghost use Rattle.alone.specs.Modes.{assertion_of};
 ghost use Rattle.alone.specs.Commits.{IsLog};
 ghost use Rattle.alone.specs.Epoch.{state_of};
 ghost use Rattle.conflict.specs.Live.{has_begin_number};
-ghost use Rattle.txn.specs.Transactions.{transaction_at_begin, truth_of};
+ghost use Rattle.txn.specs.Transactions.{reads_only, transaction_at_begin, truth_of};
 ghost use Rattle.commit.specs.Cores.{IsCommitAnswer, IsLive, IsSerializable, log_of, newest_tables, record_of};
 ghost use Rattle.commit.specs.Epochs.{IsNextEpoch, next_start, start_of};
 ghost use Rattle.commit.specs.Runs.{empty_core};
@@ -34,7 +34,7 @@ use std::alloc::{AllocError, Global};
 use std::marker::{Model, PhantomData};
 use std::mem;
 use std::sync::Wait;
-use txn::verdict_on;
+use txn::{Access, verdict_on};
 use value::{Party, Refusal, Text, Truth};
 
 /// What lies under a manager's lock: the commits, whose they are, a token of the shelf for each number, and how many
@@ -89,12 +89,11 @@ impl<N: Named> Book<N> {
         id: u64,
         epoch: u64,
         loaded: View,
-        commits: u64,
+        commits: u32,
         most: u64,
     ) -> Result<(Book<N>, Token), AllocError>
         requires shelf { shelf.now ≡ N.shelf id }
         requires limits { record { commits = commits; sessions = most } ≡ N.limits id }
-        requires small { commits ≤ 4294967295 }
         requires sound { IsSound loaded.declared loaded.state }
         ensures whose { IfOk result (λ opened. (opened.0.id ≡ id) × (opened.0.epoch ≡ epoch)) }
         ensures core { IfOk result (λ opened. opened.0.core ≡ empty_core commits loaded) }
@@ -146,59 +145,37 @@ impl<N: Named> Book<N> {
     /// [`Refusal::Stranger`] exactly where the Book or the session is not of the manager that asks, or the session
     /// has seen a number above the Book's; [`Refusal::EpochFull`] where 2^64 - 1 transactions have begun in the epoch;
     /// or [`Refusal::NoMemory`]. All is then as it was.
+    #[tactic(auto, using(crate::proofs::Tokens::begun_fresh))]
     pub fn begin(
         &mut self,
         id: u64,
         epoch: u64,
         session: &mut Session<N>,
+        access: Access,
     ) -> Result<Txn<N>, Refusal>
         ensures known { IfOk result (λ _. knows self.old session.old id epoch ≡ true) }
         ensures begun { IfOk result (λ txn.
             txn.inner
-            ≡ transaction_at_begin self.old.core.live.begun (length self.old.core.records) false
+            ≡ transaction_at_begin self.old.core.live.begun (length self.old.core.records) (reads_only access)
             (newest_tables self.old.core)) }
         ensures whose { IfOk result (λ txn. (txn.ticket.id ≡ id) × (txn.ticket.epoch ≡ epoch)) }
         ensures token { IfOk result (λ txn. slice_get self.old.tokens txn.inner.snapshot ≡ Some txn.ticket.token) }
         ensures item { IfOk result (λ txn. txn.ticket.token.value.number ≡ txn.inner.snapshot) }
-        ensures empty { IfOk result (IsFresh (N.shelf id) id epoch false) }
+        ensures empty { IfOk result (IsFresh (N.shelf id) id epoch (reads_only access)) }
         ensures fresh { IfOk result (λ txn. session.old.seen ≤ txn.inner.snapshot) }
-        ensures after { IfOk result (λ _. self.new ≡ after_begin false self.old) }
+        ensures after { IfOk result (λ _. self.new ≡ after_begin (reads_only access) self.old) }
         ensures seen { IfOk result (λ txn. session.new ≡ record session.old { seen = txn.inner.snapshot }) }
         ensures unbegun { IfErr result (IsUnbegun (knows self.old session.old id epoch)
             (has_begin_number self.old.core.live)) }
         ensures same { IfErr result (λ _. (self.new ≡ self.old) × (session.new ≡ session.old)) }
     {
-        self.begin_as(id, epoch, session, false)
-    }
-
-    /// A transaction that is read only begins on the newest tables.
-    ///
-    /// # Errors
-    ///
-    /// Those of [`Book::begin`].
-    pub fn begin_read_only(
-        &mut self,
-        id: u64,
-        epoch: u64,
-        session: &mut Session<N>,
-    ) -> Result<Txn<N>, Refusal>
-        ensures known { IfOk result (λ _. knows self.old session.old id epoch ≡ true) }
-        ensures begun { IfOk result (λ txn.
-            txn.inner
-            ≡ transaction_at_begin self.old.core.live.begun (length self.old.core.records) true
-            (newest_tables self.old.core)) }
-        ensures whose { IfOk result (λ txn. (txn.ticket.id ≡ id) × (txn.ticket.epoch ≡ epoch)) }
-        ensures token { IfOk result (λ txn. slice_get self.old.tokens txn.inner.snapshot ≡ Some txn.ticket.token) }
-        ensures item { IfOk result (λ txn. txn.ticket.token.value.number ≡ txn.inner.snapshot) }
-        ensures empty { IfOk result (IsFresh (N.shelf id) id epoch true) }
-        ensures fresh { IfOk result (λ txn. session.old.seen ≤ txn.inner.snapshot) }
-        ensures after { IfOk result (λ _. self.new ≡ after_begin true self.old) }
-        ensures seen { IfOk result (λ txn. session.new ≡ record session.old { seen = txn.inner.snapshot }) }
-        ensures unbegun { IfErr result (IsUnbegun (knows self.old session.old id epoch)
-            (has_begin_number self.old.core.live)) }
-        ensures same { IfErr result (λ _. (self.new ≡ self.old) × (session.new ≡ session.old)) }
-    {
-        self.begin_as(id, epoch, session, true)
+        if !self.knows(session, id, epoch) {
+            return Err(Refusal::Stranger);
+        }
+        let token = self.newest_token();
+        let inner = self.core.begin(access)?;
+        session.note_seen(inner.snapshot());
+        Ok(Txn::new(inner, Ticket::new(id, epoch, token)))
     }
 
     /// COMMIT of a transaction of the session. It is the next commit, with a record on the shelf, or is answered as
@@ -400,44 +377,6 @@ impl<N: Named> Book<N> {
 }
 
 impl<N: Named> Book<N> {
-    /// A transaction, read only or not, begins on the newest tables.
-    #[tactic(auto, using(crate::proofs::Tokens::begun_fresh))]
-    fn begin_as(
-        &mut self,
-        id: u64,
-        epoch: u64,
-        session: &mut Session<N>,
-        read_only: bool,
-    ) -> Result<Txn<N>, Refusal>
-        ensures known { IfOk result (λ _. knows self.old session.old id epoch ≡ true) }
-        ensures begun { IfOk result (λ txn.
-            txn.inner
-            ≡ transaction_at_begin self.old.core.live.begun (length self.old.core.records) read_only
-            (newest_tables self.old.core)) }
-        ensures whose { IfOk result (λ txn. (txn.ticket.id ≡ id) × (txn.ticket.epoch ≡ epoch)) }
-        ensures token { IfOk result (λ txn. slice_get self.old.tokens txn.inner.snapshot ≡ Some txn.ticket.token) }
-        ensures item { IfOk result (λ txn. txn.ticket.token.value.number ≡ txn.inner.snapshot) }
-        ensures empty { IfOk result (IsFresh (N.shelf id) id epoch read_only) }
-        ensures fresh { IfOk result (λ txn. session.old.seen ≤ txn.inner.snapshot) }
-        ensures after { IfOk result (λ _. self.new ≡ after_begin read_only self.old) }
-        ensures seen { IfOk result (λ txn. session.new ≡ record session.old { seen = txn.inner.snapshot }) }
-        ensures unbegun { IfErr result (IsUnbegun (knows self.old session.old id epoch)
-            (has_begin_number self.old.core.live)) }
-        ensures same { IfErr result (λ _. (self.new ≡ self.old) × (session.new ≡ session.old)) }
-    {
-        if !self.knows(session, id, epoch) {
-            return Err(Refusal::Stranger);
-        }
-        let token = self.newest_token();
-        let inner = if read_only {
-            self.core.begin_read_only()?
-        } else {
-            self.core.begin()?
-        };
-        session.note_seen(inner.snapshot());
-        Ok(Txn::new(inner, Ticket::new(id, epoch, token)))
-    }
-
     /// The Book, and what was handed out by this id and epoch, are of the manager that asks.
     #[tactic(auto, using(crate::proofs::Known::of_facts))]
     fn is_of(&self, own_id: u64, own_epoch: u64, id: u64, epoch: u64) -> bool
@@ -576,11 +515,10 @@ impl<N: Named> Book<N> {
     }
 
     /// The most commits and the most sessions that there may be.
-    fn limits(&self) -> (u64, u64)
+    fn limits(&self) -> (u32, u64)
         ensures commits { result.0 ≡ self.now.core.limit }
         ensures most { result.1 ≡ self.now.most }
         ensures of { record { commits = result.0; sessions = result.1 } ≡ N.limits self.now.id }
-        ensures small { result.0 ≤ 4294967295 }
     {
         (self.core.limit(), self.most)
     }

@@ -45,3 +45,4 @@ pub use releases::{release, release_refused};
 pub use sessions::Session;
 pub use shelf::{Shelf, Token};
 pub use tickets::{CloseFailure, ClosedTransaction, CommitFault, Txn};
+pub use txn::Access;

@@ -5,10 +5,10 @@ ghost use Rattle.session.specs.Limits.{are_limits};
 
 use std::marker::Model;
 
-/// How many commits an epoch may have, 1 to 4,294,967,295, and how many sessions, 1 to 65,536.
+/// How many commits an epoch may have, at least 1, and how many sessions, 1 to 65,536.
 #[derive(Debug, Drop)]
 pub struct Limits {
-    commits: u64,
+    commits: u32,
     sessions: u64,
 }
 
@@ -25,7 +25,7 @@ impl Model for Limits {
 
 impl Limits {
     /// These limits, if they are within their ranges. It takes no memory.
-    pub fn new(commits: u64, sessions: u64) -> Option<Limits>
+    pub fn new(commits: u32, sessions: u64) -> Option<Limits>
         ensures some { IfSome result (λ limits.
             (limits ≡ record { commits = commits; sessions = sessions }) × (are_limits commits sessions ≡ true)) }
         ensures none { IfNone result (are_limits commits sessions ≡ false) }
@@ -38,12 +38,11 @@ impl Limits {
     }
 
     /// How many commits.
-    #[tactic(auto, using(crate::proofs::Ranges::some_commits, crate::proofs::Ranges::most_commits))]
-    pub fn commits(&self) -> u64
+    #[tactic(auto, using(crate::proofs::Ranges::some_commits))]
+    pub fn commits(&self) -> u32
         ensures value { result ≡ self.now.commits }
         ensures within { are_limits result self.now.sessions ≡ true }
         ensures some { 1 ≤ result }
-        ensures most { result ≤ 4294967295 }
     {
         self.commits
     }
@@ -58,8 +57,8 @@ impl Limits {
     }
 }
 
-fn are_limits(commits: u64, sessions: u64) -> bool
+fn are_limits(commits: u32, sessions: u64) -> bool
     ensures { result ≡ are_limits commits sessions }
 {
-    0 < commits && (commits <= 4_294_967_295 && (0 < sessions && sessions <= 65_536))
+    0 < commits && (0 < sessions && sessions <= 65_536)
 }

@@ -5,6 +5,7 @@ ghost use Rattle.std.specs.Arc.{arc_value};
 ghost use Rattle.value.specs.declared.refusals.Refusal.TheVariants.{EpochFull, NoMemory, Stranger, TooManySessions};
 ghost use Rattle.boxcar.specs.Table.{Shows};
 ghost use Rattle.alone.specs.Modes.{assertion_of};
+ghost use Rattle.txn.specs.Transactions.{reads_only};
 ghost use Rattle.commit.specs.Admission.{tables_if_satisfied};
 ghost use Rattle.commit.specs.Cores.{record_with};
 ghost use Rattle.commit.specs.Epochs.{next_start};
@@ -24,6 +25,7 @@ use definitions::{Definitions, NewAssertion};
 use std::alloc::Global;
 use std::mem;
 use std::sync::{Arc, Mutex, Wait};
+use txn::Access;
 use value::{Refusal, Text, Truth};
 
 /// The manager: the Book of its epoch under its lock, and the shelf beside it. Threads share it.
@@ -99,46 +101,30 @@ impl<N: Named> Manager<N> {
     }
 
     /// A transaction begins, on tables that are no older than all that the session has seen. It has run no statement,
-    /// and sees what stands on the shelf under its snapshot's number.
+    /// and sees what stands on the shelf under its snapshot's number. Where it is read only, its INSERT, UPDATE and
+    /// DELETE are refused [`Refusal::ReadOnlyTransaction`].
     ///
     /// # Errors
     ///
     /// [`Refusal::Stranger`] for a session of another manager or epoch; [`Refusal::EpochFull`] where 2^64 - 1
     /// transactions have begun in the epoch; or [`Refusal::NoMemory`]. The session is then as it was.
-    pub fn begin<R: Wait>(&self, rt: &R, session: &mut Session<N>) -> Result<Txn<N>, Refusal>
-        ensures fresh { IfOk result (λ txn. session.old.seen ≤ txn.inner.snapshot) }
-        ensures seen { IfOk result (λ txn. session.new ≡ record session.old { seen = txn.inner.snapshot }) }
-        ensures view { IfOk result (λ txn. (txn.ticket.token.value.number ≡ txn.inner.snapshot) × IsTicketed txn) }
-        ensures empty { IfOk result (IsFresh (N.shelf self.now.id) self.now.id self.now.epoch false) }
-        ensures own { IfOk result (λ _. (session.old.id ≡ self.now.id) × (session.old.epoch ≡ self.now.epoch)) }
-        ensures refused { IfErr result IsNotBegun }
-        ensures same { OnErr result (session.new ≡ session.old) }
-    {
-        self.book.lock(rt).begin(self.id, self.epoch, session)
-    }
-
-    /// A transaction that is read only begins, as by [`Manager::begin`]: its INSERT, UPDATE and DELETE are refused
-    /// [`Refusal::ReadOnlyTransaction`], and fewer commits are refused for it, itself among them.
-    ///
-    /// # Errors
-    ///
-    /// Those of [`Manager::begin`].
-    pub fn begin_read_only<R: Wait>(
+    pub fn begin<R: Wait>(
         &self,
         rt: &R,
         session: &mut Session<N>,
+        access: Access,
     ) -> Result<Txn<N>, Refusal>
         ensures fresh { IfOk result (λ txn. session.old.seen ≤ txn.inner.snapshot) }
         ensures seen { IfOk result (λ txn. session.new ≡ record session.old { seen = txn.inner.snapshot }) }
         ensures view { IfOk result (λ txn. (txn.ticket.token.value.number ≡ txn.inner.snapshot) × IsTicketed txn) }
-        ensures empty { IfOk result (IsFresh (N.shelf self.now.id) self.now.id self.now.epoch true) }
+        ensures empty { IfOk result
+            (IsFresh (N.shelf self.now.id) self.now.id self.now.epoch (reads_only access)) }
         ensures own { IfOk result (λ _. (session.old.id ≡ self.now.id) × (session.old.epoch ≡ self.now.epoch)) }
         ensures refused { IfErr result IsNotBegun }
         ensures same { OnErr result (session.new ≡ session.old) }
     {
-        self.book
-            .lock(rt)
-            .begin_read_only(self.id, self.epoch, session)
+        let mut book = self.book.lock(rt);
+        book.begin(self.id, self.epoch, session, access)
     }
 
     /// COMMIT. The check of the transaction's own tables takes no lock.

@@ -28,12 +28,11 @@ use std::io::{BufRead, Write};
 pub fn shell_into<R: BufRead, W: Write>(
     alloc: Global,
     defs: &[u8],
-    max_commits: u64,
+    max_commits: u32,
     with_report: bool,
     input: &mut R,
     out: &mut W,
 ) -> Result<(), ShellFault>
-    requires within { max_commits ≤ 4294967295 }
     ensures written { OnOk result
         (WritesConversation defs.now max_commits with_report (R.remaining input.old) (W.contents out.old)
         (W.contents out.new)) }

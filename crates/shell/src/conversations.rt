@@ -25,12 +25,11 @@ const PROMPT_INSIDE: &str = "      ...> ";
 pub fn converse_into<R: BufRead, W: Write>(
     alloc: Global,
     defs: &[u8],
-    max_commits: u64,
+    max_commits: u32,
     with_report: bool,
     input: &mut R,
     out: &mut W,
 ) -> Result<(), ShellFault>
-    requires within { max_commits ≤ 4294967295 }
     ensures refused { IfErr result (IsFirstFault defs.now) }
     ensures nothing { IfErr result (λ fault. is_before_the_talk fault ≡ true
         → (input.new ≡ input.old) × (out.new ≡ out.old)) }

@@ -1,6 +1,7 @@
 //! The shell on a ledger: no answer goes out before each commit that it may have seen is on the disk.
 
-ghost use Rattle.std.specs.Prelude.{◌≡◌, ◌+◌, length};
+ghost use Rattle.std.specs.Prelude.{◌≡◌, ◌+◌, [], length, OnOk};
+ghost use Rattle.durable.specs.Batches.{entries_waiting};
 ghost use Rattle.durable.specs.Promise.{IsReadyFor};
 ghost use Rattle.shell.specs.Headings as heading;
 
@@ -11,7 +12,7 @@ use crate::headings::is_blank;
 use crate::shells::fault_of_reader;
 use alone::Answer;
 use commit::Unanswered;
-use durable::Ledger;
+use durable::{Ledger, Outlet};
 use journal::Device;
 use replay::write_ending;
 use report::{write_refusal, write_reply};
@@ -91,25 +92,27 @@ impl LedgerShell {
         ledger: &mut Ledger<D>,
         pace: Pace,
         input: &mut BufReader<R>,
-        out: &mut W,
+        outlet: &mut Outlet<W>,
     ) -> Result<Stop, LedgerFault>
         requires ready { IsReadyFor D.seen D.may_leave
             (length ledger.old.engine.core.records + 1) ledger.old.writer }
+        ensures none { OnOk result (entries_waiting ledger.new.writer.batch ≡ []) }
         ensures ready { IsReadyFor D.seen D.may_leave
             (length ledger.new.engine.core.records + 1) ledger.new.writer }
     {
         for _turn in 0..u64::MAX {
             if !self.may_wait(ledger, pace, input.buffer()) {
-                self.release(ledger, out)?;
+                self.release(ledger, outlet)?;
                 if ledger.writer.journal.end > pace.longest {
                     return Ok(Stop::Long);
                 }
             }
-            if !self.serve_piece(ledger, input, out)? {
+            if !self.serve_piece(ledger, input, outlet)? {
                 break;
             }
         }
-        self.release(ledger, out)?;
+        self.release(ledger, outlet)?;
+        let out = outlet.open(ledger);
         answer_rest(self.alloc, self.cutter.at(), self.cutter.bytes(), out)?;
         out.flush()?;
         Ok(Stop::End)
@@ -128,16 +131,18 @@ impl LedgerShell {
     fn release<D: Device, W: Write>(
         &mut self,
         ledger: &mut Ledger<D>,
-        out: &mut W,
+        outlet: &mut Outlet<W>,
     ) -> Result<(), LedgerFault>
         requires ready { IsReadyFor D.seen D.may_leave
             (length ledger.old.engine.core.records + 1) ledger.old.writer }
+        ensures none { OnOk result (entries_waiting ledger.new.writer.batch ≡ []) }
         ensures ready { IsReadyFor D.seen D.may_leave
             (length ledger.new.engine.core.records + 1) ledger.new.writer }
     {
-        if ledger.writer.batch.len() > 0 && ledger.sync().is_err() {
+        if !ledger.writer.batch.is_empty() && ledger.sync().is_err() {
             return Err(LedgerFault::Journal);
         }
+        let out = outlet.open(ledger);
         out.write_all(self.held.as_slice())?;
         self.held.clear();
         out.flush()?;
@@ -149,7 +154,7 @@ impl LedgerShell {
         &mut self,
         ledger: &mut Ledger<D>,
         input: &mut BufReader<R>,
-        out: &mut W,
+        outlet: &mut Outlet<W>,
     ) -> Result<bool, LedgerFault>
         requires ready { IsReadyFor D.seen D.may_leave
             (length ledger.old.engine.core.records + 1) ledger.old.writer }
@@ -160,14 +165,14 @@ impl LedgerShell {
         if more && self.cutter.is_whole() {
             let said = answer_on(self.alloc, ledger, self.cutter.at(), self.cutter.piece());
             self.cutter.cut();
-            let told = self.say(ledger, &said, out);
+            let told = self.say(ledger, &said, outlet);
             drop(said);
             told?;
         }
         match read {
             Ok(()) => Ok(more),
             Err(error) => {
-                self.release(ledger, out)?;
+                self.release(ledger, outlet)?;
                 Err(LedgerFault::Shell(fault_of_reader(&error)))
             }
         }
@@ -178,7 +183,7 @@ impl LedgerShell {
         &mut self,
         ledger: &mut Ledger<D>,
         said: &Said,
-        out: &mut W,
+        outlet: &mut Outlet<W>,
     ) -> Result<(), LedgerFault>
         requires ready { IsReadyFor D.seen D.may_leave
             (length ledger.old.engine.core.records + 1) ledger.old.writer }
@@ -188,8 +193,8 @@ impl LedgerShell {
         if self.hold(said) {
             return Ok(());
         }
-        self.release(ledger, out)?;
-        write_said(said, out)?;
+        self.release(ledger, outlet)?;
+        write_said(said, outlet.open(ledger))?;
         Ok(())
     }
 
@@ -203,13 +208,22 @@ impl LedgerShell {
         written
     }
 
-    /// Writes the report of the epoch, if it is asked for.
+    /// Writes the report of the epoch, if it is asked for, behind the answers that still wait.
+    ///
+    /// # Errors
+    ///
+    /// `Run` of `Output` at the first fault of the writer; [`LedgerFault::Journal`] as of [`LedgerShell::serve`].
     pub fn finish<D: Device, W: Write>(
-        &self,
-        ledger: &Ledger<D>,
+        &mut self,
+        ledger: &mut Ledger<D>,
         with_report: bool,
-        out: &mut W,
-    ) -> Result<(), LedgerFault> {
+        outlet: &mut Outlet<W>,
+    ) -> Result<(), LedgerFault>
+        requires ready { IsReadyFor D.seen D.may_leave
+            (length ledger.old.engine.core.records + 1) ledger.old.writer }
+    {
+        self.release(ledger, outlet)?;
+        let out = outlet.open(ledger);
         if with_report {
             write_ending(&ledger.engine, out)?;
         }

@@ -34,8 +34,7 @@ pub struct Shell {
 /// # Errors
 ///
 /// [`ProgramFault::Defs`] where the definitions are refused, or there is no memory to take them in.
-pub fn begin_shell(alloc: Global, defs: &[u8], limit: u64) -> Result<Shell, ProgramFault>
-    requires within { limit ≤ 4294967295 }
+pub fn begin_shell(alloc: Global, defs: &[u8], limit: u32) -> Result<Shell, ProgramFault>
     ensures begun { IfOk result (λ shell. IsBeginning defs.now limit shell.engine) }
     ensures fresh { IfOk result (λ shell. shell.cutter ≡ no_rest) }
     ensures refused { IfErr result (IsRunFault defs.now) }
@@ -49,8 +48,7 @@ pub fn begin_shell(alloc: Global, defs: &[u8], limit: u64) -> Result<Shell, Prog
     })
 }
 
-fn begin_engine(alloc: Global, defs: &[u8], limit: u64) -> Result<Engine, ProgramFault>
-    requires within { limit ≤ 4294967295 }
+fn begin_engine(alloc: Global, defs: &[u8], limit: u32) -> Result<Engine, ProgramFault>
     ensures begun { IfOk result (IsBeginning defs.now limit) }
     ensures refused { IfErr result (IsRunFault defs.now) }
     ensures before { IfErr result (λ fault. is_before_the_run fault ≡ true) }

@@ -11,7 +11,7 @@ use crate::shells::end_shell;
 use crate::texts::{Texts, read_texts};
 use clap::ArgMatches;
 use delta::View;
-use durable::{Ledger, OpenFault, spell_image};
+use durable::{Ledger, OpenFault, Outlet, spell_image};
 use journal::{read_header, sum_of};
 use journal_file::{Draft, JournalFile, OpenFault as FileFault, write_new};
 use replay::{ProgramFault, admit_text};
@@ -81,7 +81,7 @@ impl From<FileFault> for Unrenewed {
 pub struct OnJournal<'a> {
     pub defs: &'a [u8],
     pub path: &'a str,
-    pub limit: u64,
+    pub limit: u32,
     pub with_report: bool,
     /// So many commits share a sync at most.
     pub sync_every: u64,
@@ -109,7 +109,6 @@ where
     R: Files<File = File> + Input + AllocGlobal,
     W: Write,
     E: Write,
-    requires within { words.limit ≤ 4294967295 }
     ensures { result ≤ 4 }
 {
     let alloc = rt.alloc();
@@ -123,12 +122,12 @@ where
     let Ok(mut input) = BufReader::new(alloc, rt.reader()) else {
         return report_no_memory(streams.err);
     };
-    let Ok(mut out) = BufWriter::new(alloc, &mut *streams.out) else {
+    let Ok(out) = BufWriter::new(alloc, &mut *streams.out) else {
         return report_no_memory(streams.err);
     };
-    let served = serve(rt, words, &mut ledger, &mut input, &mut out, streams.err);
-    let _ = out.flush();
-    drop(out);
+    let mut outlet = Outlet::new(out);
+    let served = serve(rt, words, &mut ledger, &mut input, &mut outlet, streams.err);
+    drop(outlet);
     drop(ledger);
     match served {
         Ok(()) => WELL,
@@ -147,7 +146,7 @@ fn serve<R, I, W, E>(
     words: OnJournal<'_>,
     ledger: &mut Ledger<JournalFile<File>>,
     input: &mut BufReader<I>,
-    out: &mut W,
+    outlet: &mut Outlet<W>,
     err: &mut E,
 ) -> Result<(), LedgerFault>
 where
@@ -165,13 +164,13 @@ where
             sync_every: words.sync_every,
             longest,
         };
-        match shell.serve(ledger, pace, input, out)? {
+        match shell.serve(ledger, pace, input, outlet)? {
             Stop::End => break,
             Stop::Long => make_checkpoint(rt, words, ledger, err)?,
         }
         longest = longest_behind(ledger.writer.journal.end, words.checkpoint_bytes);
     }
-    shell.finish(ledger, words.with_report, out)
+    shell.finish(ledger, words.with_report, outlet)
 }
 
 /// How long a journal may grow whose lines end there: by so many bytes, and to twice its length.
@@ -266,10 +265,9 @@ fn open_ledger<R: Files<File = File> + AllocGlobal>(
     rt: &R,
     defs: &[u8],
     path: &str,
-    limit: u64,
+    limit: u32,
     whose: Whose,
 ) -> Result<Ledger<JournalFile<File>>, Unopened>
-    requires within { limit ≤ 4294967295 }
     ensures ready { IfOk result (λ ledger. IsReadyFor file_bytes file_may_leave 1 ledger.writer) }
     ensures fresh { IfOk result (λ ledger. ledger.engine.core.records ≡ []) }
 {

@@ -48,7 +48,7 @@ fn run_texts<R, W, E>(
     rt: &R,
     way: Way,
     texts: &Texts<'_>,
-    limit: u64,
+    limit: u32,
     streams: &mut Streams<'_, W, E>,
 ) -> u8
 where
@@ -56,7 +56,6 @@ where
     W: Write,
     E: Write,
     requires some { 1 ≤ limit }
-    requires within { limit ≤ 4294967295 }
     ensures { result ≤ 3 }
 {
     let alloc = rt.alloc();
@@ -80,14 +79,13 @@ fn run_threads<R, W>(
     rt: &R,
     defs: &[u8],
     script: &[u8],
-    limit: u64,
+    limit: u32,
     out: &mut W,
 ) -> Result<(), ProgramFault>
 where
     R: AllocGlobal + Threads + Wait + Sync,
     W: Write,
     requires some { 1 ≤ limit }
-    requires within { limit ≤ 4294967295 }
 {
     let shelf = match Shelf::new(rt.alloc()) {
         Ok(shelf) => shelf,

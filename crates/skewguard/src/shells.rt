@@ -57,7 +57,7 @@ fn number_of(words: &ArgMatches<'_>, option: &str) -> u64 {
 fn serve_on<R, W, E>(
     rt: &R,
     texts: &Texts<'_>,
-    limit: u64,
+    limit: u32,
     with_report: bool,
     streams: &mut Streams<'_, W, E>,
 ) -> u8
@@ -65,7 +65,6 @@ where
     R: Input + AllocGlobal,
     W: Write,
     E: Write,
-    requires within { limit ≤ 4294967295 }
     ensures { result ≤ 3 }
 {
     let alloc = rt.alloc();

@@ -73,12 +73,11 @@ where
 }
 
 /// At most so many commits, as the words say.
-pub fn limit_of(words: &ArgMatches<'_>) -> Option<u64>
-    ensures some { IfSome result (λ limit. 1 ≤ limit) }
-    ensures within { IfSome result (λ limit. limit ≤ 4294967295) }
+pub fn limit_of(words: &ArgMatches<'_>) -> Option<u32>
+    ensures { IfSome result (λ limit. 1 ≤ limit) }
 {
     match words.get_one::<u32>("max-commits") {
-        Some(limit) if limit > 0 => Some(u64::from(limit)),
+        Some(limit) if limit > 0 => Some(limit),
         _ => None,
     }
 }

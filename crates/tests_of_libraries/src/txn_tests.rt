@@ -8,7 +8,7 @@ use std::alloc::Global;
 use std::process::Abort;
 use std::test::Fail;
 use syntax::{Event, ScriptLine};
-use txn::{CloseFailure, ClosedTransaction, Txn};
+use txn::{Access, CloseFailure, ClosedTransaction, Txn};
 use value::{Refusal, Text, Truth};
 
 /// There is at most one leader, and no shift has two.
@@ -55,7 +55,7 @@ fn printed(alloc: Global, txn: &mut Txn, script: &str) -> Result<Vec<u8>, Fail> 
 /// A transaction on the tables that a text defines.
 fn begun(alloc: Global, text: &str) -> Result<Txn, Refusal> {
     let tables = tables_of(alloc, text)?;
-    let begun = Txn::begin(alloc, 5, 1, false, &tables);
+    let begun = Txn::begin(alloc, 5, 1, Access::ReadWrite, &tables);
     drop(tables);
     Ok(begun?)
 }

@@ -17,8 +17,8 @@ const AT_MOST_TWO: &str = "CREATE TABLE DUTY (ID INTEGER PRIMARY KEY, SHIFT INTE
     INSERT INTO DUTY VALUES (1, 7); INSERT INTO DUTY VALUES (2, 7);";
 
 /// What is written for two texts, with at most so many commits: the report, or the line that says why there is none.
-fn written(alloc: Global, defs: &str, script: &str, most: u64) -> Result<Vec<u8>, Fail> {
-    let limit = most.clamp(1, 4294967295);
+fn written(alloc: Global, defs: &str, script: &str, most: u32) -> Result<Vec<u8>, Fail> {
+    let limit = most.max(1);
     let mut out = Vec::new(alloc);
     match replay_into(alloc, defs.as_bytes(), script.as_bytes(), limit, &mut out) {
         Ok(()) => Ok(out),

@@ -18,6 +18,7 @@ use session::{Limits, Manager, Named, Shelf};
 use sqlite_items::Items;
 use std::alloc::Global;
 use std::io::Write;
+use std::mem::forget;
 use std::sync::Wait;
 use std::thread::Threads;
 use syntax::ScriptLine;
@@ -29,7 +30,8 @@ use value::Refusal;
 ///
 /// Where both texts are read, the definitions are taken in and the script has 256 sessions or fewer, its events are
 /// run. The writer then gains the report of what the threads were answered and of the commits that they made, and
-/// nothing else. An event that finds no memory is answered so, and changes nothing.
+/// nothing else. An event that finds no memory is answered so, and changes nothing. Of what was run the memory is not
+/// given back: this is a program's last work.
 ///
 /// # Errors
 ///
@@ -48,7 +50,7 @@ pub fn threads_into<N, R, G, W>(
     id: u64,
     defs: &[u8],
     script: &[u8],
-    max_commits: u64,
+    max_commits: u32,
     gate: &G,
     out: &mut W,
 ) -> Result<(), ProgramFault>
@@ -58,7 +60,6 @@ where
     G: Gate + Sync,
     W: Write,
     requires some { 1 ≤ max_commits }
-    requires within { max_commits ≤ 4294967295 }
     requires shelf { shelf ≡ N.shelf id }
     requires limits { N.limits id ≡ record { commits = max_commits; sessions = most_sessions } }
     ensures written { OnOk result
@@ -76,9 +77,10 @@ where
     };
     let history = manager.close();
     let printed = print_report(&history, scripts.as_slice(), answered.as_slice(), out);
-    drop(history);
-    drop(answered);
-    drop(scripts);
+    // (to let 100,000 versions of tables go one by one takes a third of a run, and the process ends behind it)
+    forget(history);
+    forget(answered);
+    forget(scripts);
     printed
 }
 
@@ -91,10 +93,9 @@ fn open_manager<N: Named, R: Wait>(
     id: u64,
     defs: &[u8],
     script: &[u8],
-    max_commits: u64,
+    max_commits: u32,
 ) -> Result<(Manager<N>, Vec<Script>), ProgramFault>
     requires some { 1 ≤ max_commits }
-    requires within { max_commits ≤ 4294967295 }
     requires shelf { shelf ≡ N.shelf id }
     requires limits { N.limits id ≡ record { commits = max_commits; sessions = most_sessions } }
     ensures opened { IfOk result (λ made. AreOpened defs.now script.now made.0.loaded.value.view made.1.items) }
@@ -114,9 +115,8 @@ fn open_manager<N: Named, R: Wait>(
 }
 
 /// So many commits, and as many sessions as a script may have.
-fn limits_of(max_commits: u64) -> Limits
+fn limits_of(max_commits: u32) -> Limits
     requires some { 1 ≤ max_commits }
-    requires within { max_commits ≤ 4294967295 }
     ensures { result ≡ record { commits = max_commits; sessions = most_sessions } }
 {
     match Limits::new(max_commits, MOST_SESSIONS as u64) {

@@ -3,6 +3,7 @@
 ghost use Rattle.std.specs.Prelude.{◌≡◌, ℕ, is_some};
 ghost use Rattle.alone.specs.declared.answers.Answer.TheVariants.{Refused};
 ghost use Rattle.syntax.specs.declared.statements.Event.TheVariants.{Commit, Rollback};
+ghost use Rattle.txn.specs.Transactions.{reads_only};
 ghost use Rattle.session.specs.Books.{IsFresh};
 ghost use Rattle.threads.specs.Lines.{IsBegun, IsBegunIn, IsRunIn, IsTold, seen_after};
 
@@ -10,6 +11,7 @@ use alone::Answer;
 use session::{CommitFault, Manager, Named, Session, Txn, release};
 use std::sync::Wait;
 use syntax::{Event, Statement};
+use txn::Access;
 use value::Refusal;
 
 /// What a line was answered, and the transaction that is open then, if one is.
@@ -40,8 +42,8 @@ pub fn run_event<N: Named, R: Wait>(
     ensures seen { session.new ≡ record session.old { seen = seen_after result.answer session.old.seen } }
 {
     match event {
-        Event::Begin => begin(rt, manager, session, txn, false),
-        Event::BeginReadOnly => begin(rt, manager, session, txn, true),
+        Event::Begin => begin(rt, manager, session, txn, Access::ReadWrite),
+        Event::BeginReadOnly => begin(rt, manager, session, txn, Access::ReadOnly),
         Event::Run(statement) => run(txn, statement),
         Event::Commit => commit(rt, manager, session, txn),
         Event::Rollback => roll_back(rt, manager, txn),
@@ -54,15 +56,15 @@ fn begin<N: Named, R: Wait>(
     manager: &Manager<N>,
     session: &mut Session<N>,
     txn: Option<Txn<N>>,
-    read_only: bool,
+    access: Access,
 ) -> LineOutcome<N>
-    ensures told { IsBegunIn (IsFresh (N.shelf manager.now.id) manager.now.id manager.now.epoch read_only)
+    ensures told { IsBegunIn (IsFresh (N.shelf manager.now.id) manager.now.id manager.now.epoch (reads_only access))
         session.old.seen txn result.answer result.txn }
     ensures seen { session.new ≡ record session.old { seen = seen_after result.answer session.old.seen } }
 {
     match txn {
         Some(txn) => answer_refused(Refusal::TransactionOpen, Some(txn)),
-        None => begin_new(rt, manager, session, read_only),
+        None => begin_new(rt, manager, session, access),
     }
 }
 
@@ -70,18 +72,13 @@ fn begin_new<N: Named, R: Wait>(
     rt: &R,
     manager: &Manager<N>,
     session: &mut Session<N>,
-    read_only: bool,
+    access: Access,
 ) -> LineOutcome<N>
-    ensures told { IsBegun (IsFresh (N.shelf manager.now.id) manager.now.id manager.now.epoch read_only)
+    ensures told { IsBegun (IsFresh (N.shelf manager.now.id) manager.now.id manager.now.epoch (reads_only access))
         session.old.seen result.answer result.txn }
     ensures seen { session.new ≡ record session.old { seen = seen_after result.answer session.old.seen } }
 {
-    let begun = if read_only {
-        manager.begin_read_only(rt, session)
-    } else {
-        manager.begin(rt, session)
-    };
-    match begun {
+    match manager.begin(rt, session, access) {
         Ok(txn) => LineOutcome {
             answer: Answer::Begun(txn.snapshot()),
             txn: Some(txn),

@@ -1,5 +1,5 @@
 -- An open transaction: what it began on, and what it has run so far. Its own view and its modes are what that leaves.
-use Rattle.std.specs.Prelude.{ℕ, Bool, List, [], ◌∷◌, ◌++◌, flat_map, map, if◌then◌else◌, Option, Some, None}
+use Rattle.std.specs.Prelude.{ℕ, Bool, true, false, List, [], ◌∷◌, ◌++◌, flat_map, map, if◌then◌else◌, Option, Some, None}
 use Rattle.value.specs.declared.truths.Truth.{Truth}
 use Rattle.value.specs.declared.truths.Truth.TheVariants.{False}
 use Rattle.value.specs.Truths.{is_of}
@@ -10,6 +10,13 @@ use Rattle.siread.specs.declared.keys.LockKey.{LockKey}
 use Rattle.alone.specs.declared.statements.ResolvedStatement.{ResolvedStatement}
 use Rattle.alone.specs.Alone.{Outcome, Run, Standing, Step, run_on, step_alone, transaction, transaction_keys}
 use Rattle.delta.specs.Views.{ViewState}
+use Rattle.txn.specs.declared.accesses.Access.{Access}
+use Rattle.txn.specs.declared.accesses.Access.TheVariants.{ReadWrite, ReadOnly}
+
+-- whether INSERT, UPDATE and DELETE are refused
+abbrev pub reads_only : Access → Bool
+reads_only ReadWrite = false
+reads_only ReadOnly = true
 
 -- a transaction that has not ended
 pub record OpenTransaction : Type 0 where

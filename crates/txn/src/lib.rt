@@ -53,6 +53,7 @@
 //! `alone`.
 #![tactic(auto)]
 
+mod accesses;
 mod checks;
 mod closed;
 mod copies;
@@ -63,6 +64,7 @@ mod steps;
 mod traces;
 mod txns;
 
+pub use accesses::Access;
 pub use checks::{find_false, find_first_false, find_violation, list_truths, verdict_on};
 pub use closed::{CloseFailure, ClosedTransaction, Parts};
 pub use copies::{copy_changes, copy_record};

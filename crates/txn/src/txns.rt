@@ -8,8 +8,9 @@ ghost use Rattle.alone.specs.Modes.{assertion_of};
 ghost use Rattle.alone.specs.Resolve.{is_read_only, resolution_of};
 ghost use Rattle.txn.specs.Held.{IsClosed};
 ghost use Rattle.txn.specs.Runnable.{IsRunnable};
-ghost use Rattle.txn.specs.Transactions.{transaction_at_begin, false_names, outcome_of, own_view, run_of, step_of, truth_of, with_statement};
+ghost use Rattle.txn.specs.Transactions.{transaction_at_begin, false_names, outcome_of, own_view, reads_only, run_of, step_of, truth_of, with_statement};
 
+use crate::accesses::Access;
 use crate::checks::{find_violation, list_false, verdict_on};
 use crate::closed::{CloseFailure, ClosedTransaction};
 use crate::effects::recall_order;
@@ -75,15 +76,15 @@ impl Txn {
         alloc: Global,
         begin_number: u64,
         snapshot: u64,
-        read_only: bool,
+        access: Access,
         tables: &View,
     ) -> Result<Txn, AllocError>
-        ensures { IfOk result (λ txn. txn ≡ transaction_at_begin begin_number snapshot read_only tables.now) }
+        ensures { IfOk result (λ txn. txn ≡ transaction_at_begin begin_number snapshot (reads_only access) tables.now) }
     {
         Ok(Txn {
             begin_number,
             snapshot,
-            read_only,
+            read_only: access.is_read_only(),
             start: tables.copy()?,
             own: tables.copy()?,
             modes: Modes::initial(alloc, tables.assertions())?,

@@ -579,7 +579,7 @@ class Engine:
         seat.state = State.OPEN
 
     def _end_seat(self, seat: Seat, operation: int) -> None:
-        """COMMIT or ROLLBACK. After NoMemory the transaction is open as before; any other refusal has ended it."""
+        """COMMIT or ROLLBACK. After NoMemory and 25 the transaction is open as before; another refusal has ended it."""
         self._serve(self._end_by, seat, operation)
 
     def _end_by(self, seat: Seat, operation: int) -> None:

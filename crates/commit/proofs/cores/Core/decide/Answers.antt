@@ -22,5 +22,5 @@ returns c = λ session.
     let is : now ≡ c.args.self.now = idle_view now c.args.self.now c.self.inside.prepared c.self.view_is c.requires.idle in
     subst (λ (s : CoreState). IsDecision s session c.args.closed.now c.in_ok-decision.decision) is
     (decided_by now session c.args.closed.now c.in_ok-decision.decision c.in_default.ensures
-    (sym (ne_eqb _ _ (λ e. c.if-as_slice-self.false (ap length c.as_slice.ensures.value ∙ e))))
+    (sym (ne_eqb _ _ (λ e. c.if-as_slice-from.false (ap length c.as_slice.ensures.value ∙ e ∙ sym c.from.ensures))))
     (subst (λ (s : CoreState). IsJudgment s (record_of s session c.args.closed.now) c.in_ok-decision.decision) (sym is) (c.in_ok-decision.ensures session)))

@@ -1,4 +1,4 @@
-use Rattle.std.proofs.Common.{◌≡◌, ◌∙◌, [], sym}
+use Rattle.std.proofs.Common.{◌≡◌, ◌∙◌, [], arith, sym}
 use Rattle.conflict.specs.Live.{none_live}
 use Rattle.commit.specs.Cores.{reads_kept}
 use Rattle.commit.specs.Kept.{idle_core}
@@ -11,7 +11,7 @@ invariant_of-result c =
     let made : empty ≡ idle_core c.args.limit c.args.loaded c.new.result.items c.new-5.result.items c.new-6.result
     = λ i. idle_core c.args.limit c.args.loaded (sym c.new.ensures.items i) (sym c.new-5.ensures.items i) (sym c.new-6.ensures i) in (
       same_core empty _ c.args.loaded _ [] _ [] _ [] _ made (sym c.in_ok-copy.ensures) (sym c.new-2.ensures.items) (sym c.new-3.ensures.items) (sym c.new-4.ensures.items)
-          (empty_kept c.args.limit c.args.loaded c.requires.sound c.requires.within),
+          (empty_kept c.args.limit c.args.loaded c.requires.sound (omega (arith, c.ranges.limit.fits))),
       tt,
       c.new-7.ensures.empty ∙ (λ i. reads_kept (made i)),
       tt,
