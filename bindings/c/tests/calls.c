@@ -413,12 +413,13 @@ static void texts(void)
     const char *seen[40];
     int count = 0, number, other, unknown = 0;
 
-    for (number = SKEWGUARD_DONE; number <= SKEWGUARD_CLOSED; number++)
+    for (number = SKEWGUARD_DONE; number <= SKEWGUARD_UNRESTORED; number++)
         seen[count++] = skewguard_status_text((skewguard_status)number);
-    for (number = 2; number <= 24; number++) {
+    for (number = 2; number <= SKEWGUARD_FAULT_NOT_KEPT; number++) {
         const char *text = skewguard_fault_text(number);
         unknown += !strcmp(text, "another fault");
-        if (number != 15 && number != 16) /* the texts of which are those of others */
+        /* (the texts of these are those of others) */
+        if (number != 15 && number != 16 && number != SKEWGUARD_FAULT_NOT_KEPT)
             seen[count++] = text;
     }
     EXPECT(unknown == 1); /* 16 is none of this library */
