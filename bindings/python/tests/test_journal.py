@@ -35,7 +35,7 @@ import skewguard
 manager = skewguard.open({LEDGER!r}, journal=sys.argv[1], checkpoint_bytes=int(sys.argv[2]), max_commits=60)
 first = len(manager.run(lambda t: t.execute("SELECT * FROM ENTRY WHERE OWNER = 'KIM'")))
 for number in range(first, first + 100_000):
-    manager.run(lambda t: t.execute({INSERT!r}, [number, "KIM", 1]))
+    manager.run(lambda t: t.execute({INSERT!r}, [2_000 + number, "KIM", 1]))
     if number % 50 == 0:
         manager.checkpoint()
     sys.stdout.write(f"{{number}}\\n")
@@ -283,7 +283,8 @@ class JournalTest(unittest.TestCase):
     def test_full_disk_under_threads(self):
         with skewguard.open(LEDGER, journal=self.path) as manager:
             insert(manager, 2000)
-            with full_disk(self.path.stat().st_size - (1 << 20) + 20000):
+            # (so few bytes that no thread has room for all its rows, even where it is alone)
+            with full_disk(self.path.stat().st_size - (1 << 20) + 4000):
                 acknowledged, errors = self.insert_from_threads(manager)
                 with self.assertRaises(skewguard.JournalError):
                     insert(manager, 2001)
