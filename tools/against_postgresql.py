@@ -16,8 +16,8 @@ which it lists; verdicts; and the rule and the least bad root of a refusal, at C
 
 PostgreSQL and skewguard tell which transactions may not commit together (SQLSTATE 40001) by rules of their own: where
 they differ, it is counted, and that case is compared no further, since its tables are others from there on. The same
-holds of a key that another session has put in since the snapshot (23505 on PostgreSQL). A session of PostgreSQL may
-also wait for another one's row; where its COMMIT comes later for that, it is counted the same way.
+holds of a key that another session has put in since the snapshot (23505 on PostgreSQL), or taken out. A session of
+PostgreSQL may also wait for another one's row; where its COMMIT comes later for that, it is counted the same way.
 After each COMMIT on PostgreSQL every rule is evaluated from scratch, and none may be false.
 """
 import argparse
@@ -561,6 +561,9 @@ class Cases:
             return True
         if several and answer == ('refused', 'key taken') and wanted[0] == 'changed':
             self.count('refused with 23505 by PostgreSQL for a key that another session has put in since')
+            return False
+        if several and wanted == ('refused', 'key taken') and answer[0] == 'changed':
+            self.count('put in by PostgreSQL under a key that another session has taken out since')
             return False
         if answer != wanted:
             raise Differs(f'{event[0]}: {event[1]};\n  skewguard  {wanted}\n  PostgreSQL {answer}  ({event[2]})')
