@@ -33,6 +33,7 @@ from harness import loads
 from harness.programs import replay, run_on
 from harness.reports import replies
 from harness.servers import Player, ServerOfCases
+from harness.texts import in_characters
 
 COMPARES = ['=', '<>', '<', '<=', '>', '>=']
 NUMBERS = [0, 1, 2, 3, 4, -1, -2, 5, 7, 10, 10 ** 15, -10 ** 15, 999999999999999]
@@ -426,11 +427,6 @@ class Differs(Exception):
     pass
 
 
-def of_utf_8(output):
-    """What the program wrote: a run hands out each byte as a character."""
-    return output.encode('latin-1').decode()
-
-
 class Cases:
     def __init__(self, program, server):
         self.program, self.server = program, server
@@ -447,7 +443,7 @@ class Cases:
         ran = replay(self.program, defs.encode(), ''.join(loads.script(events)).encode())
         if ran.status != 0:
             return None
-        answered = replies(of_utf_8(ran.output))
+        answered = replies(in_characters(ran.output))
         return [answer_of_program(answered[at]) for at in range(len(events))]
 
     def printed(self, defs):
@@ -462,7 +458,7 @@ class Cases:
         try:
             self.cursor.execute(f'CREATE SCHEMA {schema}')
             self.cursor.execute(f'SET search_path = {schema}')
-            self.cursor.execute(of_utf_8(printed_.output))
+            self.cursor.execute(in_characters(printed_.output))
         except psycopg2.Error as error:
             raise Differs(f'the SQL is not loaded: {error}\n{printed_.output}')
         return schema

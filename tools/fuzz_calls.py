@@ -23,6 +23,7 @@ import sys
 import typing
 
 from harness.programs import replay
+from harness.texts import in_bytes
 
 (AGAIN, LINE, OPEN_SESSION, CLOSE_SESSION, PREPARE, FORGET, RUN, EXECUTE, BEGIN, BEGIN_READ_ONLY, COMMIT, ROLLBACK,
  REPORT, CHECKPOINT, RUN_ALL, TRANSACT, IMAGE) = range(17)
@@ -88,7 +89,7 @@ STATEMENTS = {
 }
 USERS = 300
 # In a text each byte is one character, as in the harness.
-PAST_ASCII = tuple(text.encode("utf-8").decode("latin-1") for text in ("Žofie", "日本語'😀"))
+PAST_ASCII = in_bytes("Žofie"), in_bytes("日本語'😀")
 NO_NAMES = b"", b"A B", b"SELECT", b"\xff", b"1A", b"A" * 129
 EVENTS = {BEGIN: "BEGIN", BEGIN_READ_ONLY: "BEGIN READ ONLY", COMMIT: "COMMIT", ROLLBACK: "ROLLBACK"}
 

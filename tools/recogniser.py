@@ -15,6 +15,7 @@ import re
 import sys
 
 from harness.programs import replay
+from harness.texts import in_bytes, in_characters
 
 RESERVED = set("""ALL AND AS ASSERTION BEGIN BETWEEN BY CHECK COMMIT CONSTRAINTS COUNT CREATE DEFERRABLE DEFERRED DELETE EXISTS FALSE FROM
 GROUP HAVING IMMEDIATE IN INITIALLY INSERT INT INTEGER INTO IS KEY MAX MIN NOT NULL ONLY OR PRIMARY READ ROLLBACK SELECT SET SUM
@@ -86,7 +87,7 @@ TOKEN = re.compile(r"(?P<word>[A-Za-z][A-Za-z0-9_]*)|(?P<number>[0-9]+)|(?P<text
 def is_utf8(text):
     """Whether the bytes of a text, each of which is one character here, spell characters."""
     try:
-        text.encode('latin-1').decode('utf-8')
+        in_characters(text)
     except UnicodeDecodeError:
         return False
     return True
@@ -163,14 +164,9 @@ def lowest(ways):
     return min(ways, key=lambda way: max((HEIGHT.get(s, 0) for s in way), default=0))
 
 
-def bytes_of(text):
-    """A text, with each byte of it as one character."""
-    return text.encode('utf-8').decode('latin-1')
-
-
 SPELLINGS = {
     'name': ['A', 'Bc', 'T_1'], 'number': ['0', '7', '1000000000000000'], 'width': ['1', '255'],
-    'text': ["''", "'x'", "'it''s'", bytes_of("'Žofie'"), bytes_of("'\x80\u2028\uffff\U0001d11e'")],
+    'text': ["''", "'x'", "'it''s'", in_bytes("'Žofie'"), in_bytes("'\x80\u2028\uffff\U0001d11e'")],
 }
 OTHERS = sorted(RESERVED) + ['(', ')', ',', ';', '*', '-', '=', 'A', '5', '300', "'x", '?', '1000000000000001']
 # Texts that are none: a byte alone, a longer form, half of a pair, one above U+10FFFF, one cut short, and controls.

@@ -22,7 +22,7 @@ import typing
 
 from harness.journals import DAMAGED, SELECT, lines_of
 from harness.programs import Answer, run
-from harness.texts import placed, write
+from harness.texts import in_bytes, in_characters, placed, write
 
 VALUE = r"(?:NULL|-?\d+|'(?:[^']|'')*')"
 ROW = rf"(none|\({VALUE}(?:, {VALUE})*\))"
@@ -77,14 +77,14 @@ def large(rows: int) -> Case:
 def literal(value: typing.Union[None, int, str]) -> str:
     """A value as the shell writes it."""
     if isinstance(value, str):
-        return "'" + value.replace("'", "''").encode().decode("latin-1") + "'"
+        return "'" + in_bytes(value.replace("'", "''")) + "'"
     return "NULL" if value is None else str(value)
 
 
 def loaded(text: str) -> sqlite3.Connection:
     """The tables and rows that SQLite has of a text. Nothing of it is left open."""
     database = sqlite3.connect(":memory:", isolation_level=None)
-    database.executescript(text.encode("latin-1").decode())
+    database.executescript(in_characters(text))
     if database.in_transaction:
         raise ValueError("the transaction is still open")
     return database

@@ -8,6 +8,16 @@ NAMES = "defs.sql", "script.sql"
 Text = typing.Union[str, bytes]
 
 
+def in_bytes(text: str) -> str:
+    """Characters as their bytes in UTF-8, each of which is one character."""
+    return text.encode("utf-8").decode("latin-1")
+
+
+def in_characters(text: str) -> str:
+    """The characters that the bytes of a text spell in UTF-8; UnicodeDecodeError where they spell none."""
+    return text.encode("latin-1").decode("utf-8")
+
+
 def read(path: typing.Union[str, pathlib.Path], otherwise: str = "") -> str:
     """The text of a file, or what is given where there is none."""
     file = pathlib.Path(path)

@@ -41,6 +41,12 @@ class Texts(unittest.TestCase):
             self.assertEqual(texts.read(files[0]).encode("latin-1"), every)
         self.assertFalse(os.path.exists(os.path.dirname(files[0])))
 
+    def test_characters_and_their_bytes(self):
+        self.assertEqual(texts.in_bytes("\u017do"), "\xc5\xbdo")
+        self.assertEqual(texts.in_characters("\xc5\xbdo"), "\u017do")
+        with self.assertRaises(UnicodeDecodeError):
+            texts.in_characters("\xc5")
+
     def test_names_and_pieces(self):
         with texts.placed("one", names=["one.sql"]) as (file,):
             self.assertTrue(file.endswith("/one.sql"))
