@@ -635,7 +635,7 @@ static inline const char *skewguard_fault_text(int number)
 {
     switch (number) {
     case SKEWGUARD_FAULT_NO_MEMORY:
-        return "no memory is left";
+        return skewguard_status_text(SKEWGUARD_NO_MEMORY);
     case SKEWGUARD_FAULT_SYNTAX:
         return "syntax error";
     case SKEWGUARD_FAULT_UNKNOWN_NAME:
@@ -681,7 +681,7 @@ static inline const char *skewguard_fault_text(int number)
     case SKEWGUARD_FAULT_TOO_MANY_SESSIONS:
         return "there are as many sessions as may be open at once";
     case SKEWGUARD_FAULT_NOT_KEPT:
-        return "the commit could not be kept in the journal: its transaction is open";
+        return skewguard_status_text(SKEWGUARD_NOT_KEPT);
     default:
         return "another fault";
     }
