@@ -14,29 +14,32 @@ Of each copy, `journal` and `shell` have to say the same: the commits of its who
 damaged, with the commit that is missing and the byte where its line begins. A header that is changed is refused. What
 the disk lost has to be noticed; what can't be told from a torn batch is counted, and may stand in the last line alone.
 """
-import argparse
+from __future__ import annotations
+
 import collections
 import concurrent.futures
 import os
 import pathlib
 import random
 import sys
-import tempfile
 import typing
+from collections.abc import Callable, Iterator, Sequence
 
+from harness.arguments import parser_of
 from harness.journals import Held, Line, header_end, held, lines_of, recovered, refused, with_durable
+from harness.loads import inserts
 from harness.programs import run
-from harness.texts import write
+from harness.texts import temporary_folder, write
 
 ACCOUNTS = 6
 DEFS = f"""CREATE TABLE ACCOUNT (ID INTEGER PRIMARY KEY, OWNER VARCHAR(10), BAL INTEGER);
 CREATE ASSERTION COVERED CHECK (NOT EXISTS (SELECT OWNER FROM ACCOUNT GROUP BY OWNER HAVING SUM(BAL) < 0));
-{"".join(f"INSERT INTO ACCOUNT VALUES ({key}, 'O''{key % 4}', 100);{chr(10)}" for key in range(ACCOUNTS))}"""
+{"".join(inserts("ACCOUNT", ((key, f"'O''{key % 4}'", 100) for key in range(ACCOUNTS))))}"""
 QUERY = "ID, OWNER, BAL FROM ACCOUNT"
 BLOCKS = (1, 1, 16, 64)
 KEPT = (0.5, 0.9, 0.99, 0.999)
 
-State = typing.Dict[int, typing.Tuple[str, int]]
+State = dict[int, tuple[str, int]]
 
 
 class Copy(typing.NamedTuple):
@@ -45,7 +48,7 @@ class Copy(typing.NamedTuple):
     kind: str
     place: int
     file: bytes
-    allowed: typing.List[Held]
+    allowed: list[Held]
     # Whether it is refused before its body is read.
     headless: bool = False
 
@@ -54,11 +57,11 @@ class Made(typing.NamedTuple):
     """A journal, its lines, and the rows after each of its commits."""
 
     file: bytes
-    lines: typing.List[Line]
-    states: typing.List[State]
+    lines: list[Line]
+    states: list[State]
 
 
-def changed(state: State, number: int, drawn: random.Random) -> typing.Tuple[str, State]:
+def changed(state: State, number: int, drawn: random.Random) -> tuple[str, State]:
     """The statements of a transaction that is accepted, and the rows after it."""
     after = dict(state)
     added = [key for key in state if key >= 1000]
@@ -76,23 +79,23 @@ def changed(state: State, number: int, drawn: random.Random) -> typing.Tuple[str
     return f"A: INSERT INTO ACCOUNT VALUES ({1000 + number}, {row[0]}, {row[1]});", after
 
 
-def make(program: str, defs: str, path: str, commits: int, drawn: random.Random) -> Made:
+def make(program: str, defs: str, path: pathlib.Path, commits: int, drawn: random.Random) -> Made:
     """A journal of commits, each of which the program was started for."""
-    states: typing.List[State] = [{key: (f"'O''{key % 4}'", 100) for key in range(ACCOUNTS)}]
+    states: list[State] = [{key: (f"'O''{key % 4}'", 100) for key in range(ACCOUNTS)}]
     for number in range(1, commits + 1):
         text, after = changed(states[-1], number, drawn)
         answer = run([program, "shell", defs, "--journal", path], f"A: BEGIN; {text} A: COMMIT;\n")
         if answer.status or "A: COMMIT " not in answer.output:
             sys.exit(f"commit {number} was not accepted: {answer}")
         states.append(after)
-    file = pathlib.Path(path).read_bytes()
+    file = path.read_bytes()
     lines = lines_of(file)
     if [line.number for line in lines] != list(range(commits + 1)):
         sys.exit(f"the journal has other lines than those of {commits} commits: {lines}")
     return Made(file[:lines[-1].end + 512], lines, states)
 
 
-def line_at(lines: typing.Sequence[Line], place: int) -> Line:
+def line_at(lines: Sequence[Line], place: int) -> Line:
     return next(line for line in lines if place < line.end)
 
 
@@ -104,7 +107,7 @@ def newest(number: int) -> Held:
     return Held(number, None, None)
 
 
-def cuts(made: Made) -> typing.Iterator[Copy]:
+def cuts(made: Made) -> Iterator[Copy]:
     """The file up to each byte. A file without its image is no whole one, and no crash leaves it."""
     body, image = header_end(made.file), made.lines[0]
     for place in range(made.lines[-1].end + 1):
@@ -113,7 +116,7 @@ def cuts(made: Made) -> typing.Iterator[Copy]:
         yield Copy("cut", place, made.file[:place], allowed, place < body)
 
 
-def replaced(made: Made, kind: str, byte: typing.Callable[[int], int]) -> typing.Iterator[Copy]:
+def replaced(made: Made, kind: str, byte: Callable[[int], int]) -> Iterator[Copy]:
     """The file with each byte replaced. Only what stands in the last line may look torn."""
     body, last = header_end(made.file), made.lines[-1]
     for place in range(last.end):
@@ -125,7 +128,7 @@ def replaced(made: Made, kind: str, byte: typing.Callable[[int], int]) -> typing
         yield Copy(kind, place, file, allowed, place < body)
 
 
-def torn(made: Made, count: int, drawn: random.Random) -> typing.Iterator[Copy]:
+def torn(made: Made, count: int, drawn: random.Random) -> Iterator[Copy]:
     """The last few commits as one batch, of which some bytes were not written."""
     for place in range(count):
         size = drawn.randrange(1, min(6, len(made.lines)))
@@ -138,13 +141,13 @@ def torn(made: Made, count: int, drawn: random.Random) -> typing.Iterator[Copy]:
         yield Copy("torn", place, file, [newest(lines_of(file)[-1].number)])
 
 
-def rows(state: State) -> typing.List[typing.List[str]]:
+def rows(state: State) -> list[list[str]]:
     return [[str(key), owner, str(balance)] for key, (owner, balance) in sorted(state.items())]
 
 
-def judge(program: str, defs: str, folder: str, made: Made, copy: Copy) -> str:
+def judge(program: str, defs: str, folder: pathlib.Path, made: Made, copy: Copy) -> str:
     """What the program makes of a copy, in a word; of what it should not, all."""
-    path = write(pathlib.Path(folder, f"{copy.kind}-{copy.place}"), copy.file)
+    path = write(folder / f"{copy.kind}-{copy.place}", copy.file)
     found = held(program, path)
     answer, shown = recovered(program, defs, path, QUERY)
     os.unlink(path)
@@ -155,7 +158,7 @@ def judge(program: str, defs: str, folder: str, made: Made, copy: Copy) -> str:
         return f"WRONG: {found}, and not {copy.allowed}"
     if found.newest is None:
         return "damaged, the right commit and byte named" if refused(answer) == found else f"TWO ANSWERS: {answer}"
-    if [[field.strip() for field in row.split(",")] for row in shown] != rows(made.states[found.newest]):
+    if shown != rows(made.states[found.newest]):
         return f"WRONG ROWS after {found.newest}: {answer}"
     if copy.kind in ("flip", "zero"):
         return "taken as torn, in the last line"
@@ -163,17 +166,18 @@ def judge(program: str, defs: str, folder: str, made: Made, copy: Copy) -> str:
 
 
 def main() -> int:
-    parser = argparse.ArgumentParser(description=__doc__.splitlines()[0])
+    parser = parser_of(__doc__)
     parser.add_argument("program")
     parser.add_argument("--commits", type=int, default=12)
     parser.add_argument("--torn", type=int, default=150)
     parser.add_argument("--jobs", type=int, default=2)
     parser.add_argument("--seed", type=int, default=7)
     words = parser.parse_args()
-    program, drawn, count = os.path.abspath(words.program), random.Random(words.seed), collections.Counter()
-    with tempfile.TemporaryDirectory() as folder, concurrent.futures.ThreadPoolExecutor(words.jobs) as pool:
-        defs = write(pathlib.Path(folder, "defs.sql"), DEFS)
-        made = make(program, defs, str(pathlib.Path(folder, "ledger")), words.commits, drawn)
+    program, drawn = os.path.abspath(words.program), random.Random(words.seed)
+    count: collections.Counter[tuple[str, str]] = collections.Counter()
+    with temporary_folder() as folder, concurrent.futures.ThreadPoolExecutor(words.jobs) as pool:
+        defs = write(folder / "defs.sql", DEFS)
+        made = make(program, defs, folder / "ledger", words.commits, drawn)
         other = {byte: drawn.choice([it for it in range(1, 256) if it != byte]) for byte in range(256)}
         copies = [*cuts(made), *replaced(made, "flip", other.__getitem__), *replaced(made, "zero", lambda _: 0),
             *torn(made, words.torn, drawn)]

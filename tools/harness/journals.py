@@ -1,8 +1,12 @@
 """Journals: the lines of their files, as docs/JOURNAL.md has them, and what the program says of a file."""
+from __future__ import annotations
+
 import re
 import typing
+from collections.abc import Iterable
 
 from .programs import Answer, run
+from .texts import Path
 
 DAMAGED = 4  # the status with which the program refuses a damaged journal
 FAULT = re.compile(r"the journal .* is damaged at byte (\d+): commit (\d+) is missing")
@@ -20,9 +24,9 @@ class Line(typing.NamedTuple):
 class Held(typing.NamedTuple):
     """What a file says: the newest commit, that of the image where there is no other; or what is missing, and where."""
 
-    newest: typing.Optional[int]
-    missing: typing.Optional[int]
-    at: typing.Optional[int]
+    newest: int | None
+    missing: int | None
+    at: int | None
 
 
 def sum_of(text: bytes) -> int:
@@ -38,9 +42,9 @@ def header_end(file: bytes) -> int:
     return file.index(b"\n") + 1
 
 
-def lines_of(file: bytes) -> typing.List[Line]:
+def lines_of(file: bytes) -> list[Line]:
     """The whole lines up to the first zero: that of the image, and those of commits."""
-    found: typing.List[Line] = []
+    found: list[Line] = []
     start = header_end(file)
     stop = file.find(b"\0", start)
     stop = len(file) if stop < 0 else stop
@@ -50,7 +54,7 @@ def lines_of(file: bytes) -> typing.List[Line]:
     return found
 
 
-def spelled(fields: typing.Iterable[bytes]) -> bytes:
+def spelled(fields: Iterable[bytes]) -> bytes:
     """The line of a commit, by its fields without the sum."""
     body = b"".join(field + b"\t" for field in fields)
     return b"\n%s%d\t\n" % (body, sum_of(body))
@@ -62,13 +66,13 @@ def with_durable(line: bytes, durable: int) -> bytes:
     return spelled([fields[0], str(durable).encode(), *fields[2:-2]])
 
 
-def refused(answer: Answer) -> typing.Optional[Held]:
+def refused(answer: Answer) -> Held | None:
     """What is said to be missing, where a journal was refused as damaged."""
     fault = FAULT.search(answer.error) if answer.status == DAMAGED else None
     return Held(None, int(fault.group(2)), int(fault.group(1))) if fault else None
 
 
-def held(program: object, path: object) -> typing.Optional[Held]:
+def held(program: Path, path: Path) -> Held | None:
     """What `journal` says of a file; nothing where it says none of what it may."""
     answer = run([program, "journal", path])
     if answer.status:
@@ -78,7 +82,12 @@ def held(program: object, path: object) -> typing.Optional[Held]:
     return Held(int(newest.group(1)), None, None) if newest else None
 
 
-def recovered(program: object, definitions: object, path: object, query: str) -> typing.Tuple[Answer, typing.List[str]]:
-    """The rows of a query once the shell has recovered them from a journal."""
+def recovered(program: Path, definitions: Path, path: Path, query: str) -> tuple[Answer, list[list[str]]]:
+    """The rows of a query, field by field, once the shell has recovered them from a journal."""
     answer = run([program, "shell", definitions, "--journal", path], SELECT.format(query))
-    return answer, [line.strip() for line in answer.output.splitlines() if line.startswith("  ")]
+    return answer, [fields_of(line) for line in answer.output.splitlines() if line.startswith("  ")]
+
+
+def fields_of(line: str) -> list[str]:
+    """The fields of a row, of whose texts none has a comma in it."""
+    return [field.strip() for field in line.split(",")]

@@ -1,6 +1,10 @@
 """Loads: tables with their rules and rows, and scripts over them."""
+from __future__ import annotations
+
 import sqlite3
-import typing
+from collections.abc import Iterable, Iterator, Sequence
+
+from .texts import Path
 
 MEMBERS = 4  # rows that belong to a shift or an owner
 FIRST = 1_000_000  # what an account begins with
@@ -14,25 +18,25 @@ COVERED = """NOT EXISTS (SELECT * FROM SHIFTS S WHERE NOT EXISTS\
 FUNDS = "NOT EXISTS (SELECT OWNER FROM ACCT GROUP BY OWNER HAVING SUM(BAL) < 0)"
 
 
-def inserts(table: str, rows: typing.Iterable[typing.Iterable[object]]) -> typing.Iterator[str]:
+def inserts(table: str, rows: Iterable[Iterable[object]]) -> Iterator[str]:
     """Definitions of rows, whose values stand there as they are written."""
     return (f"INSERT INTO {table} VALUES ({', '.join(map(str, row))});\n" for row in rows)
 
 
-def accounts(keys: int) -> typing.Iterator[typing.Tuple[int, int, int]]:
+def accounts(keys: int) -> Iterator[tuple[int, int, int]]:
     """Accounts, of which each owner has some one behind the other."""
     return ((key, key // MEMBERS, FIRST) for key in range(keys))
 
 
-def ledger(keys: int) -> typing.Iterator[str]:
+def ledger(keys: int) -> Iterator[str]:
     """Accounts and their rule."""
     yield f"{ACCT}\nCREATE ASSERTION FUNDS CHECK ({FUNDS});\n"
     yield from inserts("ACCT", accounts(keys))
 
 
-def sqlite_ledger(path: object, keys: int, synchronous: str = "FULL") -> sqlite3.Connection:
+def sqlite_ledger(path: Path, keys: int, synchronous: str = "FULL") -> sqlite3.Connection:
     """The accounts in a new file of SQLite, with a write-ahead log; it keeps no rule."""
-    database = sqlite3.connect(str(path), isolation_level=None)
+    database = sqlite3.connect(path, isolation_level=None)
     database.execute("PRAGMA journal_mode=WAL")
     database.execute(f"PRAGMA synchronous={synchronous}")
     database.execute(ACCT)
@@ -40,19 +44,19 @@ def sqlite_ledger(path: object, keys: int, synchronous: str = "FULL") -> sqlite3
     return database
 
 
-def on_call(keys: int) -> typing.Iterator[str]:
+def on_call(keys: int) -> Iterator[str]:
     """Persons in shifts, every other of them on call, and their rule."""
     yield f"{SHIFTS}\n{DUTY}\nCREATE ASSERTION COVERED CHECK ({COVERED});\n"
     yield from inserts("SHIFTS", ((shift,) for shift in range(keys // MEMBERS)))
     yield from inserts("DUTY", ((key, key // MEMBERS, 1 - key % 2) for key in range(keys)))
 
 
-def script(events: typing.Iterable[typing.Sequence[str]]) -> typing.Iterator[str]:
+def script(events: Iterable[Sequence[str]]) -> Iterator[str]:
     """Lines of events, each of which is a session and a text; what else it has does not stand there."""
     return (f"{session}: {text};\n" for session, text, *_ in events)
 
 
-def transactions(statements: typing.Iterable[str], begin: str = "BEGIN", end: str = "COMMIT",
-                 session: str = "A") -> typing.Iterator[str]:
+def transactions(statements: Iterable[str], begin: str = "BEGIN", end: str = "COMMIT",
+                 session: str = "A") -> Iterator[str]:
     """A transaction of each statement. With another word in the place of BEGIN each event is refused."""
     return script((session, text) for statement in statements for text in (begin, statement, end))

@@ -1,11 +1,18 @@
 """Runs with their processor time and peak memory, and figures as docs/PERFORMANCE.md has them."""
+from __future__ import annotations
 
+import collections
 import math
 import os
+import re
 import statistics
 import subprocess
 import sys
 import typing
+from collections.abc import Iterable, Sequence
+
+from .programs import Environment, Word, output_of, run, words_of_replay
+from .texts import Path
 
 # A process counts the memory of the one that starts it towards its own peak, so a small Python starts the program. What
 # that Python holds itself, some 9 MB, is the least peak that can be told.
@@ -18,7 +25,6 @@ print(os.waitstatus_to_exitcode(status), used.ru_utime + used.ru_stime, used.ru_
 """
 
 
-
 class Used(typing.NamedTuple):
     """Processor seconds, and the peak memory in bytes."""
 
@@ -26,36 +32,48 @@ class Used(typing.NamedTuple):
     memory: int
 
 
-class Figures(typing.DefaultDict[object, typing.List[float]]):
+class Figures(collections.defaultdict[object, list[float]]):
     """Figures by what they are of, one of each repetition."""
 
     def __init__(self) -> None:
         super().__init__(list)
 
-    def middle(self, name: object) -> typing.Optional[float]:
+    def middle(self, name: object) -> float | None:
         """The median; None where there is no figure."""
         return statistics.median(self[name]) if self.get(name) else None
 
+    def median(self, name: object) -> float:
+        """The median of figures that are there."""
+        return statistics.median(self[name])
 
-def launched(words: typing.Sequence[str], output: str, end: int = 0) -> Used:
+
+def launched(words: Iterable[Word], output: Path, end: int = 0) -> Used:
     """The processor seconds and the peak memory in bytes of a command, which has to end with this status.
 
     What a command says where it is to end otherwise than well is not shown.
     """
-    command = [sys.executable, "-I", "-S", "-c", LAUNCHER, output, *words]
-    told = subprocess.DEVNULL if end else None
-    done = subprocess.run(command, check=True, stdout=subprocess.PIPE, stderr=told, text=True)
-    status, seconds, memory = done.stdout.split()
+    command = list(map(str, words))
+    launcher = [sys.executable, "-I", "-S", "-c", LAUNCHER, str(output)]
+    told = output_of([*launcher, *command], stderr=subprocess.DEVNULL if end else None, timeout=None)
+    status, seconds, memory = told.split()
     if status != str(end):
-        sys.exit(f"{' '.join(words)} ended with {status}")
+        sys.exit(f"{' '.join(command)} ended with {status}")
     return Used(float(seconds), int(memory))
 
 
-def measured_replay(program: str, definitions: object, script: object, output: object = os.devnull,
-                    commits: typing.Optional[int] = None) -> Used:
+def measured_replay(program: Path, definitions: Path, script: Path, output: Path = os.devnull,
+                    commits: int | None = None) -> Used:
     """A replay of two files, with its report in a third."""
     allowed = ["--max-commits", str(commits)] if commits else []
-    return launched([os.path.abspath(program), "replay", *allowed, str(definitions), str(script)], str(output))
+    return launched(words_of_replay(os.path.abspath(program), definitions, script, *allowed), output)
+
+
+def instructions(words: Iterable[Word], more: Environment | None = None) -> int:
+    """The instructions of a command, which has to end well, as valgrind counts them."""
+    counting = ["valgrind", "--tool=callgrind", "--callgrind-out-file=/dev/null", *words]
+    status, _, told = run(counting, more=more, stdout=subprocess.DEVNULL, timeout=None)
+    found = re.search(r"Collected : (\d+)", told)
+    return int(found[1]) if found and not status else sys.exit(f"valgrind ended with {status}:\n{told}")
 
 
 def least_memory() -> int:
@@ -63,18 +81,22 @@ def least_memory() -> int:
     return launched(["/bin/true"], os.devnull).memory
 
 
-def exponent(points: typing.Sequence[typing.Tuple[float, typing.Optional[float]]]) -> typing.Optional[float]:
+def exponent(points: Iterable[tuple[float, float | None]]) -> float | None:
     """By which power a time grows: the slope of log time by log number, by least squares; None without all times."""
-    if len(points) < 2 or any(time is None or time <= 0 for _, time in points):
+    along, up = [], []
+    for number, time in points:
+        if time is None or time <= 0:
+            return None
+        along.append(math.log(number))
+        up.append(math.log(time))
+    if len(along) < 2:
         return None
-    along = [math.log(number) for number, _ in points]
-    up = [math.log(time) for _, time in points]
     centre, middle = statistics.mean(along), statistics.mean(up)
     across = sum((x - centre) * (y - middle) for x, y in zip(along, up))
     return across / sum((x - centre) ** 2 for x in along)
 
 
-def digits(number: typing.Optional[float], count: int = 2) -> str:
+def digits(number: float | None, count: int = 2) -> str:
     """A number in so many digits, as the repetitions differ in the second; a dash for none."""
     if number is None:
         return "-"
@@ -82,17 +104,22 @@ def digits(number: typing.Optional[float], count: int = 2) -> str:
     return f"{rounded:,.0f}" if abs(rounded) >= 10 ** (count - 1) else f"{rounded:.{count}g}"
 
 
-def power(number: typing.Optional[float]) -> str:
+def power(number: float | None) -> str:
     """An exponent in two places."""
     return "-" if number is None else f"{number:.2f}"
 
 
-def table(heads: typing.Sequence[str], rows: typing.Iterable[typing.Sequence[str]]) -> None:
+def table(heads: Sequence[str], rows: Iterable[Sequence[str]]) -> None:
     """A table as docs/PERFORMANCE.md holds it."""
     print(f"\n| {' | '.join(heads)} |")
     print("|---" * len(heads) + "|")
     for row in rows:
         print(f"| {' | '.join(row)} |")
+
+
+def load_at_end() -> None:
+    """The last line before the tables."""
+    print(f"load at the end {os.getloadavg()[0]:.1f}")
 
 
 def machine(repetitions: object) -> str:
@@ -102,11 +129,6 @@ def machine(repetitions: object) -> str:
     return f"Python {python}, {os.cpu_count()} processors, median of {repetitions}, {load}"
 
 
-def numbers_of(words: str) -> typing.List[int]:
-    """The numbers of a word of the command line, which has commas between them."""
-    return [int(word) for word in words.split(",") if word]
-
-
-def spread(name: str, figures: typing.Iterable[float], places: int) -> str:
+def spread(name: str, figures: Iterable[float], places: int) -> str:
     """All figures of one name, the least first."""
     return f"{name} {' '.join(f'{figure:.{places}f}' for figure in sorted(figures)) or '-'}"

@@ -1,12 +1,20 @@
 """A PostgreSQL server of one's own, which listens on a socket in its folder alone, without fsync."""
+from __future__ import annotations
+
 import glob
 import os
 import queue
 import shutil
-import subprocess
 import tempfile
 import threading
 import typing
+from collections.abc import Mapping, Sequence
+
+from .programs import printed
+from .texts import Path
+
+if typing.TYPE_CHECKING:
+    from psycopg2.extensions import connection
 
 SETTINGS = {"fsync": "off", "synchronous_commit": "off", "full_page_writes": "off", "listen_addresses": "",
             "default_transaction_isolation": "serializable", "max_pred_locks_per_transaction": "1024"}
@@ -14,7 +22,7 @@ SETTINGS_OF_CASES = {"max_pred_locks_per_transaction": "256", "deadlock_timeout"
                      "client_min_messages": "error"}
 
 
-def server_programs() -> typing.Optional[str]:
+def server_programs() -> str | None:
     """The folder that has initdb and what belongs to it, on the path or where Debian puts it; None without one."""
     found = [shutil.which("initdb"), *sorted(glob.glob("/usr/lib/postgresql/*/bin/initdb"), reverse=True)]
     return next((os.path.dirname(os.path.realpath(each)) for each in found if each), None)
@@ -26,9 +34,8 @@ class Server:
     Settings more go over those above, and words more to initdb.
     """
 
-    def __init__(self, folder: str, settings: typing.Optional[typing.Dict[str, str]] = None,
-                 words: typing.Sequence[str] = ()) -> None:
-        self.folder = folder
+    def __init__(self, folder: Path, settings: Mapping[str, str] | None = None, words: Sequence[str] = ()) -> None:
+        self.folder = str(folder)
         self.programs = server_programs()
         if os.getuid() == 0:
             shutil.chown(folder, "postgres")
@@ -41,8 +48,7 @@ class Server:
         command = [f"{self.programs}/{name}", *words]
         if os.getuid() == 0:
             command = ["runuser", "-u", "postgres", "--", *command]
-        streams = {"stdout": subprocess.PIPE, "stderr": subprocess.STDOUT}
-        return subprocess.run(command, check=True, text=True, cwd="/", **streams).stdout
+        return printed(command, cwd="/")
 
     def stop(self) -> None:
         """Ends the server; its folder stays."""
@@ -56,13 +62,13 @@ class ServerOfCases(Server):
         folder = tempfile.mkdtemp(prefix="skewguard_pg_")
         super().__init__(folder, SETTINGS_OF_CASES, ("--locale=C", "-E", "UTF8"))
 
-    def connect(self, options: str = "") -> typing.Any:
+    def connect(self, options: str = "") -> connection:
         """A connection that begins no transaction by itself."""
         import psycopg2
 
-        connection = psycopg2.connect(host=self.folder, user="postgres", dbname="postgres", options=options)
-        connection.autocommit = True
-        return connection
+        made = psycopg2.connect(host=self.folder, user="postgres", dbname="postgres", options=options)
+        made.autocommit = True
+        return made
 
     def stop(self) -> None:
         super().stop()
@@ -76,9 +82,9 @@ class Player(threading.Thread):
         super().__init__(daemon=True)
         self.connection = server.connect(f"-c search_path={schema} -c enable_seqscan=off -c jit=off")
         self.cursor, self.idle = self.connection.cursor(), True
-        self.work: "queue.Queue[typing.Optional[str]]" = queue.Queue()
+        self.work: queue.Queue[str | None] = queue.Queue()
 
-    def give(self, event: typing.Optional[str]) -> None:
+    def give(self, event: str | None) -> None:
         """An event, to be played behind those before it; None is the end."""
         self.idle = False
         self.work.put(event)
