@@ -12,16 +12,15 @@ no work of one's own, so `rt lib` would prove them all once more; here the compi
 made of, and proves skewguard_c alone again. Where checks of one's own have kept some of the crates, `rt ci` has put
 them back in place of its own, and they are no set that was built together: then it is `rt lib` all the same.
 """
-import argparse
 import os
 import pathlib
 import shutil
-import subprocess
 import sys
-import tempfile
 
-from harness.crates import path_of_rt
-from harness.programs import TOP
+from harness import crates
+from harness.arguments import parser_of
+from harness.programs import TOP, carry_out
+from harness.texts import temporary_folder
 
 CRATE = TOP / "crates" / "skewguard_c"
 HEADER = TOP / "bindings" / "c" / "skewguard.h"
@@ -33,17 +32,13 @@ EXPORTS = (*PROVED, *(f"skewguard_journal_{name}" for name in (
     "open", "call", "checkpoint", "checkpoint_bytes", "close", "start", "take", "make", "made", "failure")))
 
 
-def run(*words, folder=None):
-    subprocess.run([str(word) for word in words], cwd=folder, check=True)
-
-
-def proved_archive():
+def proved_archive() -> pathlib.Path:
     """What `rt lib` makes, over the work that earlier checks kept."""
-    run("rt", "lib", folder=CRATE)
+    carry_out(["rt", "lib"], cwd=CRATE)
     return CRATE / "out" / "libskewguard_c.a"
 
 
-def archive_behind_gate():
+def archive_behind_gate() -> pathlib.Path:
     """What the compiler makes over the crates that `rt ci` has left, and proves as it does."""
     sys.path.insert(0, str(kit() / "bin"))
     import rtlib
@@ -57,44 +52,45 @@ def archive_behind_gate():
     return CRATE / "out" / "libskewguard_c.a"
 
 
-def kit():
+def kit() -> pathlib.Path:
     """The folder of the toolchain, which has `rt` in its bin/."""
-    return path_of_rt("c_library.py: there is no `rt` to find the kit by").parent.parent
+    return crates.kit("c_library.py: there is no `rt` to find the kit by")
 
 
-def memory_archive():
+def memory_archive() -> pathlib.Path:
     """The kit's calls of malloc."""
     return kit() / "c" / "liblibc_c.a"
 
 
-def one_object(archive, work):
+def one_object(archive: pathlib.Path, work: pathlib.Path) -> pathlib.Path:
     """All of both archives, in which only the exports can be seen."""
     whole, journal = work / "skewguard.o", work / "journal.o"
-    run("cc", "-std=c99", "-O2", "-Wall", "-Wextra", "-Werror", "-fPIC", "-c", JOURNAL, "-o", journal)
-    run("ld", "-r", "-o", whole, journal, "--whole-archive", archive, "--no-whole-archive", memory_archive())
-    run("objcopy", *(f"--keep-global-symbol={name}" for name in EXPORTS), whole)
+    carry_out(["cc", "-std=c99", "-O2", "-Wall", "-Wextra", "-Werror", "-fPIC", "-c", JOURNAL, "-o", journal])
+    carry_out(["ld", "-r", "-o", whole, journal, "--whole-archive", archive, "--no-whole-archive", memory_archive()])
+    carry_out(["objcopy", *(f"--keep-global-symbol={name}" for name in EXPORTS), whole])
     return whole
 
 
-def static_library(whole, folder):
+def static_library(whole: pathlib.Path, folder: pathlib.Path) -> None:
     library = folder / "libskewguard.a"
     library.unlink(missing_ok=True)
-    run("ar", "rcsD", library, whole)
+    carry_out(["ar", "rcsD", library, whole])
 
 
-def shared_library(whole, work, folder):
+def shared_library(whole: pathlib.Path, work: pathlib.Path, folder: pathlib.Path) -> None:
     names = work / "exports.map"
     names.write_text("{ global: " + " ".join(f"{name};" for name in EXPORTS) + " local: *; };\n")
     link = (f"-Wl,-soname,{SONAME}", f"-Wl,--version-script={names}", "-Wl,--gc-sections", "-Wl,--no-undefined")
-    run("cc", "-shared", "-s", *link, "-Wl,-z,relro,-z,now", "-Wl,--build-id=sha1", "-o", folder / FILE, whole)
+    more = ("-Wl,-z,relro,-z,now", "-Wl,--build-id=sha1")
+    carry_out(["cc", "-shared", "-s", *link, *more, "-o", folder / FILE, whole])
     for link_name, target in ((SONAME, FILE), ("libskewguard.so", SONAME)):
         link_path = folder / link_name
         link_path.unlink(missing_ok=True)
         os.symlink(target, link_path)
 
 
-def main():
-    words = argparse.ArgumentParser(description=__doc__.splitlines()[0])
+def main() -> None:
+    words = parser_of(__doc__)
     words.add_argument("folder", type=pathlib.Path)
     made = words.add_mutually_exclusive_group()
     made.add_argument("--archive", type=pathlib.Path, help="what `rt lib` made; without it `rt lib` is called")
@@ -103,10 +99,10 @@ def main():
     archive = given.archive or (archive_behind_gate() if given.behind_gate else proved_archive())
     given.folder.mkdir(parents=True, exist_ok=True)
     shutil.copyfile(HEADER, given.folder / HEADER.name)
-    with tempfile.TemporaryDirectory() as work:
-        whole = one_object(archive.resolve(), pathlib.Path(work))
+    with temporary_folder() as work:
+        whole = one_object(archive.resolve(), work)
         static_library(whole, given.folder)
-        shared_library(whole, pathlib.Path(work), given.folder)
+        shared_library(whole, work, given.folder)
 
 
 if __name__ == "__main__":

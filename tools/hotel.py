@@ -12,7 +12,8 @@ When an epoch is full, the threads have to end, what is stored has to keep the r
 each transaction kept in a table of its own, 256 transactions have to find a place, and a checkpoint has to find none
 open; then the next epoch begins. The last line says what was done. A desk that is stuck ends the run, with the place.
 """
-import argparse
+from __future__ import annotations
+
 import collections
 import contextlib
 import faulthandler
@@ -23,9 +24,15 @@ import subprocess
 import sys
 import threading
 import time
+import typing
+from collections.abc import Iterable, Sequence
 
 import skewguard
+from harness.arguments import parser_of
+from harness.programs import pipe
 from skewguard import dbapi
+
+T = typing.TypeVar("T")
 
 DEFINITIONS = """
 CREATE TABLE ROOMS (ID INTEGER PRIMARY KEY, BEDS INTEGER NOT NULL);
@@ -59,10 +66,10 @@ for line in sys.stdin:
 """
 
 
-def faults(stays):
+def faults(stays: skewguard.Result | Sequence[skewguard.Row]) -> set[str]:
     """The rules that rows break, by their names."""
     found = set()
-    by_rooms = collections.defaultdict(list)
+    by_rooms: dict[int, list[tuple[int, int]]] = collections.defaultdict(list)
     for stay in stays:
         by_rooms[stay.ROOM].append((stay.FROM_DAY, stay.TO_DAY))
         if stay.ROOM not in BEDS:
@@ -83,13 +90,13 @@ def faults(stays):
 class Desk:
     """What one thread does."""
 
-    def __init__(self, manager, number, seed):
+    def __init__(self, manager: skewguard.Manager, number: int, seed: str) -> None:
         self.manager, self.number, self.drawn = manager, number, random.Random(seed)
         self.connection = dbapi.connect(manager, session=f"DESK{number}")
-        self.count = collections.Counter()
+        self.count: collections.Counter[str] = collections.Counter()
         self.works = [self.book] * 6 + [self.cancel, self.move, self.exchange, self.read] * 2 + [self.forget]
 
-    def serve(self):
+    def serve(self) -> None:
         """Does one thing, which the rules or the other desks may refuse. Raises EpochFull."""
         work = self.drawn.choice(self.works)
         try:
@@ -104,31 +111,31 @@ class Desk:
                 raise
             self.count["session in use"] += 1
 
-    def note(self, t, column):
+    def note(self, t: skewguard.Transaction, column: str) -> None:
         t.execute(f"UPDATE DESKS SET {column} = {column} + 1 WHERE ID = ?", [self.number])
 
-    def one_of(self, found):
+    def one_of(self, found: Iterable[T]) -> T | None:
         return self.drawn.choice(list(found)) if found else None
 
-    def book(self):
+    def book(self) -> None:
         day = self.drawn.randrange(DAYS)
         stay = {"id": self.drawn.randrange(10**15), "room": self.drawn.randrange(1, 10), "day": day}
         stay |= {"end": day + self.drawn.randrange(5), "guests": self.drawn.randrange(1, 4)}
 
-        def insert(t):
+        def insert(t: skewguard.Transaction) -> None:
             t.execute("INSERT INTO STAYS VALUES (:id, :room, :day, :end, :guests);", stay)
             self.note(t, "BOOKED")
 
         self.manager.run(insert, retry=100)
 
-    def cancel(self):
+    def cancel(self) -> None:
         with self.manager.transaction(session=f"GUEST{self.drawn.randrange(400)}") as t:
             stay = self.one_of(t.execute(f"SELECT ID FROM STAYS WHERE ROOM >= {self.drawn.randrange(1, 9)}"))
             if stay:
                 t.execute("DELETE FROM STAYS WHERE ID = ?", stay)
                 self.note(t, "CANCELLED")
 
-    def move(self):
+    def move(self) -> None:
         cursor = self.connection.cursor()
         stay = self.one_of(cursor.execute("SELECT * FROM STAYS").fetchall())
         try:
@@ -139,7 +146,7 @@ class Desk:
         finally:
             self.connection.rollback()
 
-    def exchange(self):
+    def exchange(self) -> None:
         """Two stays exchange their rooms, which breaks a rule in between."""
         with self.manager.transaction() as t:
             t.set_constraints("NOTWICE", deferred=True)
@@ -149,7 +156,7 @@ class Desk:
                 for stay, room in ((one, other.ROOM), (other, one.ROOM)):
                     t.execute("UPDATE STAYS SET ROOM = ? WHERE ID = ?", [room, stay.ID])
 
-    def read(self):
+    def read(self) -> None:
         with self.manager.transaction(read_only=True) as t:
             stays = list(t.execute("SELECT * FROM STAYS"))
             for _ in range(3):
@@ -157,11 +164,11 @@ class Desk:
         if faults(stays):
             sys.exit(f"a transaction reads what breaks {', '.join(faults(stays))}")
 
-    def forget(self):
+    def forget(self) -> None:
         t = self.manager.begin()
         t.execute("UPDATE DESKS SET BOOKED = BOOKED + 1000 WHERE ID = ?", [self.number])
 
-    def work(self, failed):
+    def work(self, failed: list[BaseException]) -> None:
         """Serves until the epoch is full."""
         try:
             with contextlib.suppress(skewguard.EpochFull):
@@ -172,14 +179,14 @@ class Desk:
             raise
 
 
-def work_interrupted(desk, sender):
+def work_interrupted(desk: Desk, sender: subprocess.Popen[str]) -> None:
     """The same on the main thread, with an interrupt every few milliseconds."""
     is_full = False
     while not is_full:
         faulthandler.dump_traceback_later(STUCK, exit=True)
         try:
-            sender.stdin.write("0.01\n")
-            sender.stdin.flush()
+            pipe(sender.stdin).write("0.01\n")
+            pipe(sender.stdin).flush()
             with contextlib.suppress(skewguard.EpochFull):
                 while True:
                     desk.serve()
@@ -190,7 +197,7 @@ def work_interrupted(desk, sender):
             desk.count["interrupts"] += 1
 
 
-def check(manager, desks, commits):
+def check(manager: skewguard.Manager, desks: Sequence[Desk], commits: int) -> None:
     """What has to hold when the desks have ended."""
     for desk in desks:
         desk.connection.rollback()  # which an interrupt may have kept a desk from
@@ -213,9 +220,9 @@ def check(manager, desks, commits):
     manager.checkpoint()
 
 
-def serve_an_epoch(desks, sender):
+def serve_an_epoch(desks: Sequence[Desk], sender: subprocess.Popen[str]) -> None:
     """All desks work until the epoch is full, and have to end then."""
-    failed = []
+    failed: list[BaseException] = []
     threads = [threading.Thread(target=desk.work, args=(failed,), daemon=True) for desk in desks[1:]]
     for thread in threads:
         thread.start()
@@ -226,13 +233,14 @@ def serve_an_epoch(desks, sender):
         sys.exit("a desk has failed")
 
 
-def main():
-    words = argparse.ArgumentParser(description=__doc__.splitlines()[0])
+def main() -> None:
+    words = parser_of(__doc__)
     words.add_argument("--minutes", type=float, default=1)
     words.add_argument("--commits", type=int, default=20_000, help="those of an epoch")
     words.add_argument("--seed", type=int, default=1)
     given = words.parse_args()
-    until, epochs, total = time.monotonic() + 60 * given.minutes, 0, collections.Counter()
+    until, epochs = time.monotonic() + 60 * given.minutes, 0
+    total: collections.Counter[str] = collections.Counter()
     rooms = "".join(f"INSERT INTO ROOMS VALUES ({room}, {beds});" for room, beds in BEDS.items())
     counts = "".join(f"INSERT INTO DESKS VALUES ({number}, 0, 0);" for number in range(DESKS))
     signal.signal(signal.SIGINT, signal.default_int_handler)  # a shell leaves it out for what runs in the background
@@ -244,7 +252,7 @@ def main():
                 check(manager, desks, given.commits)
                 epochs += 1
             faulthandler.cancel_dump_traceback_later()
-        sender.stdin.close()
+        pipe(sender.stdin).close()
     for desk in desks:
         total.update(desk.count)
     done = ", ".join(f"{what} {count}" for what, count in sorted(total.items()))

@@ -12,19 +12,19 @@ under AddressSanitizer, which also looks for what was not given back. Then the e
 refused in turn: a call that found no memory is made once more, and the report has to come out the same. The last line
 says what passed; the status is 1 where something did not.
 """
-import argparse
 import concurrent.futures
 import os
 import pathlib
 import shutil
-import subprocess
 import sys
-import tempfile
 
 sys.path.append(str(pathlib.Path(__file__).resolve().parent.parent.parent / "tools"))
 
-from harness.programs import TOP  # noqa: E402
+from harness.arguments import parser_of  # noqa: E402
+from harness.libraries import library_in  # noqa: E402
+from harness.programs import TOP, Answer, Word, run  # noqa: E402
 from harness.refusing import run_refusing, shim  # noqa: E402
+from harness.texts import read, shown, temporary_folder  # noqa: E402
 
 HERE = pathlib.Path(__file__).resolve().parent
 EXAMPLES = "on-call", "ledger", "booking"
@@ -45,46 +45,43 @@ LOOPS = "1 ONE 10 1\n2 TWO 20 1\n10\n20\n"
 class Tests:
     """What was run, and what of it failed."""
 
-    def __init__(self):
+    def __init__(self) -> None:
         self.passed = 0
         self.failed = 0
 
-    def note(self, name, holds, why=""):
+    def note(self, name: str, holds: bool, why: str = "") -> None:
         self.passed += holds
         self.failed += not holds
         if not holds:
-            print(f"FAILED {name}\n{why}", file=sys.stderr)
+            print(f"FAILED {name}\n{shown(why)}", file=sys.stderr)
 
 
-def run(*words, **options):
-    return subprocess.run([str(word) for word in words], capture_output=True, text=True, check=False, **options)
-
-
-def compile_headers(tests, work):
+def compile_headers(tests: Tests, work: pathlib.Path) -> None:
+    """The header alone, as both languages and by both compilers."""
     source = work / "header.c"
     source.write_text('#include "skewguard.h"\nint main(void) { return 0; }\n')
     for compiler, language in COMPILED:
-        made = run(compiler, *language, *WARNINGS, "-I", HERE, "-c", source, "-o", work / "header.o")
-        tests.note(f"header by {compiler} {language[1]}", made.returncode == 0, made.stderr)
+        made = run([compiler, *language, *WARNINGS, "-I", HERE, "-c", source, "-o", work / "header.o"])
+        tests.note(f"header by {compiler} {language[1]}", made.status == 0, made.error)
 
 
-def compile_loops(tests, library, work):
+def compile_loops(tests: Tests, library: pathlib.Path, work: pathlib.Path) -> None:
     """A program as anyone writes it, by both compilers at each level, without a warning; it has to print its rows."""
     for compiler, language in COMPILED:
         for level in ("-O0", "-O1", "-O2", "-O3", "-Os"):
             words = (compiler, level, "-Wall", "-Wextra", "-Werror", f"-I{library}", *language)
             ran = build_loop(library, work, *words)
-            tests.note(f"loops by {compiler} {level} {language[1]}", ran.stdout == LOOPS, ran.stdout + ran.stderr)
+            tests.note(f"loops by {compiler} {level} {language[1]}", ran.output == LOOPS, ran.output + ran.error)
 
 
-def build_loop(library, work, *words):
+def build_loop(library: pathlib.Path, work: pathlib.Path, *words: Word) -> Answer:
     """What the program of loops prints, or the compiler says."""
     archive = library / "libskewguard.a"
-    made = run(*words, HERE / "tests" / "loop.c", "-x", "none", archive, "-o", work / "loop")
-    return made if made.returncode else run(work / "loop")
+    made = run([*words, HERE / "tests" / "loop.c", "-x", "none", archive, "-o", work / "loop"])
+    return made if made.status else run([work / "loop"])
 
 
-def compile_by_package(tests, library, work):
+def compile_by_package(tests: Tests, library: pathlib.Path, work: pathlib.Path) -> None:
     """The same by the flags of packaging/skewguard.pc, as if it were installed in a root folder."""
     if not shutil.which("pkg-config"):
         return
@@ -99,51 +96,53 @@ def compile_by_package(tests, library, work):
     (libraries / "pkgconfig/skewguard.pc").write_text(text.replace("@VERSION@", "0.1.0"))
     places = {"PKG_CONFIG_LIBDIR": str(libraries / "pkgconfig"), "PKG_CONFIG_SYSROOT_DIR": str(root)}
     places |= {"PKG_CONFIG_ALLOW_SYSTEM_CFLAGS": "1", "PKG_CONFIG_ALLOW_SYSTEM_LIBS": "1"}
-    asked = run("pkg-config", "--cflags", "--libs", "skewguard", env=os.environ | places)
+    asked = run(["pkg-config", "--cflags", "--libs", "skewguard"], more=places)
     warnings = ("-O2", "-Wall", "-Wextra", "-Werror")
-    made = run("cc", *warnings, HERE / "tests/loop.c", *asked.stdout.split(), "-o", work / "by")
-    ran = run(work / "by", env={"LD_LIBRARY_PATH": str(libraries)}) if not made.returncode else made
-    tests.note("by pkg-config", ran.stdout == LOOPS, asked.stdout + asked.stderr + ran.stdout + ran.stderr)
+    made = run(["cc", *warnings, HERE / "tests/loop.c", *asked.output.split(), "-o", work / "by"])
+    ran = made if made.status else run([work / "by"], environment={"LD_LIBRARY_PATH": str(libraries)})
+    tests.note("by pkg-config", ran.output == LOOPS, asked.output + asked.error + ran.output + ran.error)
 
 
-def build(name, library, out, *flags):
+def build(name: str, library: pathlib.Path, out: pathlib.Path, *flags: str) -> pathlib.Path:
     """A test, linked with the static library."""
     flags += WRAPPED if name == "journal" else ()
-    words = ("clang", "-std=c99", "-g", "-pthread", *flags, *WARNINGS, "-I", library, "-I", HERE / "tests")
-    made = run(*words, HERE / "tests" / f"{name}.c", library / "libskewguard.a", "-o", out)
-    if made.returncode:
-        sys.exit(made.stderr)
+    words: list[Word] = ["clang", "-std=c99", "-g", "-pthread", *flags, *WARNINGS, "-I", library, "-I", HERE / "tests"]
+    made = run([*words, HERE / "tests" / f"{name}.c", library / "libskewguard.a", "-o", out])
+    if made.status:
+        sys.exit(shown(made.error))
     return out
 
 
-def example(name):
+def example(name: str) -> tuple[pathlib.Path, pathlib.Path, str]:
     """The files of an example, and its report."""
     folder = TOP / "examples" / name
-    return folder / "defs.sql", folder / "script.sql", (folder / "expected.txt").read_text()
+    return folder / "defs.sql", folder / "script.sql", read(folder / "expected.txt")
 
 
-def run_programs(tests, kind, *programs):
+def run_programs(tests: Tests, kind: str, *programs: pathlib.Path) -> None:
     """Each program, and each example by the last."""
     *others, replay = programs
     for program in others:
-        given = run(program)
-        tests.note(f"{program.name}, {kind}", given.returncode == 0, given.stdout + given.stderr)
+        given = run([program])
+        tests.note(f"{program.name}, {kind}", given.status == 0, given.output + given.error)
     for name in EXAMPLES:
         definitions, script, report = example(name)
-        given = run(replay, definitions, script)
-        tests.note(f"{name}, {kind}", given.returncode == 0 and given.stdout == report, given.stdout + given.stderr)
+        given = run([replay, definitions, script])
+        is_as_wanted = given.status == 0 and given.output == report
+        tests.note(f"{name}, {kind}", is_as_wanted, given.output + given.error)
 
 
-def refused_run(replay, preload, name, number):
+def refused_run(replay: pathlib.Path, preload: str, name: str, number: int) -> tuple[bool, bool]:
     """Whether an allocation was refused, and whether the report was the same all the same."""
     definitions, script, report = example(name)
     answer, refused = run_refusing([replay, definitions, script], preload, REFUSE=number)
     return bool(refused), answer.status == 0 and answer.output == report
 
 
-def refuse_each(tests, replay, preload, name):
+def refuse_each(tests: Tests, replay: pathlib.Path, preload: str, name: str) -> int:
     """The example with its first allocation refused, its second, and so on, up to a run that none is refused in."""
-    refused, differs = 0, []
+    refused = 0
+    differs: list[int] = []
     with concurrent.futures.ThreadPoolExecutor(os.cpu_count()) as pool:
         for start in range(1, MOST_ALLOCATIONS, 256):
             numbers = range(start, start + 256)
@@ -156,16 +155,13 @@ def refuse_each(tests, replay, preload, name):
     return refused
 
 
-def main():
-    words = argparse.ArgumentParser(description=__doc__.splitlines()[0])
+def main() -> None:
+    words = parser_of(__doc__)
     words.add_argument("--library", type=pathlib.Path, help="the folder that tools/c_library.py made")
     given = words.parse_args()
     tests = Tests()
-    with tempfile.TemporaryDirectory() as folder:
-        work = pathlib.Path(folder)
-        library = given.library or work / "library"
-        if not given.library:
-            subprocess.run([sys.executable, TOP / "tools" / "c_library.py", library], check=True)
+    with temporary_folder() as work:
+        library = given.library or library_in(work)
         compile_headers(tests, work)
         compile_loops(tests, library.resolve(), work)
         compile_by_package(tests, library.resolve(), work)
