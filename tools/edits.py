@@ -13,16 +13,22 @@ which edits stand in the gate.
 The first form says of each edit whether it was refused. It ends with status 1 if one is proved, can't be put in or
 can't be read.
 """
-import argparse
+from __future__ import annotations
+
 import importlib.machinery
 import importlib.util
+import pathlib
 import re
 import sys
+import types
+import typing
+from collections.abc import Iterator, Sequence
 
-from harness.crates import path_of_rt
+from harness.arguments import parser_of
+from harness.crates import BY_HAND, CRATES, IN_GATE, edits_of, path_of_rt
 from harness.programs import TOP
 
-FOLDERS = {"must-fail": "in the gate", "edits": "by hand"}
+FOLDERS = {IN_GATE: "in the gate", BY_HAND: "by hand"}
 HEAD = re.compile(r"^[ \t]*(?:pub(?:\([\w ]+\))? )?(?:unsafe )?(?:extern \"C\" )?fn (\w+)", re.MULTILINE)
 CLAUSE = re.compile(r"^[ \t]*(?:requires|ensures)\*?[ \w]*\{", re.MULTILINE)
 # What a clause says of a call that succeeded: one equation, of the whole of what is returned or left.
@@ -32,30 +38,35 @@ OTHER = r"(?!\w+\.old[\w.]*\)*$)[^→×⊎]*"
 EQUATION = re.compile(rf"{HOLDS}(?:Reads .*|Gives .*|{WHOLE} ≡ {OTHER}|[^→×⊎]* ≡ (?:Ok|Some) [^→×⊎]*)")
 
 
-def kit():
+class Function(typing.NamedTuple):
+    """A function of a file, and its clauses of what it leaves."""
+
+    name: str
+    clauses: list[str]
+
+
+def kit() -> types.ModuleType:
     """What `rt` is made of, so that an edit is tried just as the gate tries those of must-fail/."""
     tool = path_of_rt("edits.py: there is no `rt` to try edits with")
     loader = importlib.machinery.SourceFileLoader("rt", str(tool))
-    rt = importlib.util.module_from_spec(importlib.util.spec_from_loader("rt", loader))
+    spec = importlib.util.spec_from_file_location("rt", tool, loader=loader)
+    assert spec
+    rt = importlib.util.module_from_spec(spec)
     sys.dont_write_bytecode = True
     loader.exec_module(rt)
     return rt
 
 
-def edits_of(crate, folders=tuple(FOLDERS)):
-    return sorted(file for folder in folders for file in (TOP / "crates" / crate / folder).glob("*.edit"))
+def crates() -> list[str]:
+    return sorted(folder.name for folder in CRATES.iterdir())
 
 
-def crates():
-    return sorted(folder.name for folder in (TOP / "crates").iterdir())
-
-
-def check():
+def check() -> int:
     """Whether each edit can be put in: its old text stands exactly once in its file."""
     rt, bad, count = kit(), 0, 0
     for crate in crates():
         for edit in edits_of(crate):
-            why = rt.read_edit(str(edit), str(TOP / "crates" / crate))[1]
+            why = rt.read_edit(str(edit), str(CRATES / crate))[1]
             count += 1
             if why:
                 bad += 1
@@ -64,9 +75,9 @@ def check():
     return bad
 
 
-def turned(edit):
+def turned(edit: pathlib.Path) -> Iterator[tuple[str, int]]:
     """The texts that an edit turns, each with its file's text and where it stands there."""
-    path = None
+    path = edit
     for line in edit.read_text(encoding="utf-8").splitlines():
         if line.startswith("file: "):
             path = edit.parent.parent / line.removeprefix("file: ").strip()
@@ -76,7 +87,7 @@ def turned(edit):
             yield text, text.index(old) + len(old) - len(old.lstrip())
 
 
-def end_of_braces(text, start):
+def end_of_braces(text: str, start: int) -> int:
     """Where the brace that opens at the start is closed."""
     depth = 0
     for at in range(start, len(text)):
@@ -86,10 +97,11 @@ def end_of_braces(text, start):
     return len(text)
 
 
-def function_at(text, place):
+def function_at(text: str, place: int) -> Function | None:
     """The function around a place, and its clauses; or None where none is there."""
     for head in reversed(list(HEAD.finditer(text, 0, place))):
-        clauses, at = [], head.end()
+        clauses: list[str] = []
+        at = head.end()
         while (opening := text.find("{", at)) >= 0:
             line = text.rfind("\n", 0, opening) + 1
             if not CLAUSE.match(text, line):
@@ -97,35 +109,35 @@ def function_at(text, place):
             at = end_of_braces(text, opening) + 1
             clauses.append(" ".join(text[line:at].split()))
         if opening >= 0 and opening <= place <= end_of_braces(text, opening):
-            return head[1], [it for it in clauses if it.startswith("ensures")]
+            return Function(head[1], [it for it in clauses if it.startswith("ensures")])
     return None
 
 
-def is_equation(clause):
+def is_equation(clause: str) -> bool:
     return EQUATION.fullmatch(clause[clause.index("{") + 1:-1].strip()) is not None
 
 
-def sort(names):
+def sort(names: Sequence[str]) -> None:
     """Prints each edit with the clauses of what it turns. Whether they are equations is a guess by their form."""
     for crate in names or crates():
         for edit in edits_of(crate):
             found = [function_at(text, place) for text, place in turned(edit)]
-            clauses = [clause for it in found if it for clause in it[1]]
+            clauses = [clause for it in found if it for clause in it.clauses]
             form = "an equation" if any(map(is_equation, clauses)) else "a relation" if clauses else "no clause here"
-            names_of = ", ".join(dict.fromkeys(it[0] for it in found if it)) or "no function"
+            names_of = ", ".join(dict.fromkeys(it.name for it in found if it)) or "no function"
             print(f"{crate}/{edit.stem} ({FOLDERS[edit.parent.name]}): {names_of}, {form}")
             for clause in dict.fromkeys(clauses):
                 print(f"    {clause}")
 
 
-def try_edits(names, jobs):
+def try_edits(names: Sequence[str], jobs: str) -> int:
     """Tries the edits of these crates, and returns how many were not refused."""
     rt = kit()
     rt.rtlib.guarded()
     by_name = {it.name: it for it in rt.rtlib.crates_below(str(TOP))}
     bad = 0
     for name in names:
-        edits = edits_of(name, ["edits"])
+        edits = edits_of(name, [BY_HAND])
         if name not in by_name or not edits:
             sys.exit(f"edits.py: there are no edits in crates/{name}/edits")
         if any(below.build_rlib(["--jobs", jobs], anew=False) for below in by_name[name].below()):
@@ -137,8 +149,8 @@ def try_edits(names, jobs):
     return bad
 
 
-def main():
-    words = argparse.ArgumentParser(description=__doc__.splitlines()[0])
+def main() -> None:
+    words = parser_of(__doc__)
     what = words.add_mutually_exclusive_group()
     what.add_argument("--check", action="store_true", help="only whether each edit can be put in")
     what.add_argument("--sort", action="store_true", help="only what each edit turns")
@@ -148,7 +160,8 @@ def main():
     if given.check:
         sys.exit(check() != 0)
     if given.sort:
-        sys.exit(sort(given.crates))
+        sort(given.crates)
+        return
     if not given.crates:
         words.error("name the crates whose edits are to be tried")
     sys.exit(try_edits(given.crates, given.jobs) != 0)

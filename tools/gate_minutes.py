@@ -12,9 +12,9 @@ what each of its own has used so far, every half second, and adds up by the crat
 process uses between the last look and its end is missed, less than half a second a check. Minutes are processor
 minutes, not those of a clock; the runs of tests and programs and the gate's own script are in the last line alone.
 """
-import argparse
+from __future__ import annotations
+
 import collections
-import glob
 import json
 import os
 import re
@@ -22,15 +22,22 @@ import resource
 import subprocess
 import sys
 import time
+from collections.abc import Callable
 
-from harness.crates import edges
+from harness.arguments import parser_of
+from harness.crates import BY_HAND, IN_GATE, edges, edits_of
 from harness.programs import TOP
+from harness.texts import Path
 
 TICKS = os.sysconf("SC_CLK_TCK")
 KINDS = ("proof", "tests", "edits")
 
+Label = tuple[str, str]  # a crate, and one of these
+Seconds = collections.defaultdict[Label, float]
+Chain = tuple[float, list[str]]  # the seconds of crates, and their names
 
-def fields_of(pid):
+
+def fields_of(pid: str) -> list[str] | None:
     """The fields of a process behind its name: its parent is the second, its times the twelfth and thirteenth."""
     try:
         with open(f"/proc/{pid}/stat") as it:
@@ -39,7 +46,7 @@ def fields_of(pid):
         return None
 
 
-def label(pid):
+def label(pid: str) -> Label | None:
     """The crate and the kind of work of a prover's process, or None for another process."""
     try:
         with open(f"/proc/{pid}/cmdline", "rb") as it:
@@ -56,19 +63,21 @@ def label(pid):
     return crate, "tests" if "--test" in words else "proof"
 
 
-def is_below(pid, top, parents):
+def is_below(pid: str, top: str, parents: dict[str, str]) -> bool:
     """Whether a process is the top one or was started below it."""
     while pid in parents and pid != top:
         pid = parents[pid]
     return pid == top
 
 
-def watch(is_running, top):
+def watch(is_running: Callable[[], bool], top: str) -> Seconds:
     """Processor seconds by crate and kind of what a process starts, looked at until the command has ended."""
-    seconds, labels = {}, {}
+    # (by the number of a process and its start)
+    seconds: dict[tuple[str, str], float] = {}
+    labels: dict[tuple[str, str], Label | None] = {}
     while is_running():
-        found = {pid: fields_of(pid) for pid in os.listdir("/proc") if pid.isdigit()}
-        found = {pid: fields for pid, fields in found.items() if fields}
+        all_fields = {pid: fields_of(pid) for pid in os.listdir("/proc") if pid.isdigit()}
+        found = {pid: fields for pid, fields in all_fields.items() if fields}
         parents = {pid: fields[1] for pid, fields in found.items()}
         for pid, fields in found.items():
             # (a process keeps its number and its label; a number that is used again is of another start)
@@ -79,46 +88,47 @@ def watch(is_running, top):
             if labels.get(key):
                 seconds[key] = max(seconds.get(key, 0.0), (int(fields[11]) + int(fields[12])) / TICKS)
         time.sleep(0.5)
-    table = collections.Counter()
+    table: Seconds = collections.defaultdict(float)
     for key, spent in seconds.items():
-        table[labels[key]] += spent
+        if crate_and_kind := labels[key]:
+            table[crate_and_kind] += spent
     return table
 
 
-def edits_of(crate):
+def counts_of_edits(crate: str) -> list[int]:
     """How many edits of a crate the gate tries, and how many tools/edits.py tries."""
-    folders = [f"{TOP}/crates/{crate}/{name}" for name in ("must-fail", "edits")]
-    return [len(glob.glob(f"{folder}/*.edit")) for folder in folders]
+    return [len(edits_of(crate, [folder])) for folder in (IN_GATE, BY_HAND)]
 
 
-def show(table):
+def show(table: Seconds) -> None:
     crates = sorted({crate for crate, _ in table}, key=lambda it: -sum(table[it, kind] for kind in KINDS))
     print("| crate | proof | tests | edits | together | edits in the gate, by hand |\n|---|---|---|---|---|---|")
     for crate in crates:
         minutes = [table[crate, kind] / 60 for kind in KINDS]
         cells = " | ".join(f"{it:.1f}" for it in [*minutes, sum(minutes)])
-        print(f"| `{crate}` | {cells} | {', '.join(map(str, edits_of(crate)))} |")
+        print(f"| `{crate}` | {cells} | {', '.join(map(str, counts_of_edits(crate)))} |")
     sums = [sum(table[it, kind] for it in crates) / 60 for kind in KINDS]
     cells = " | ".join(f"{it:.1f}" for it in [*sums, sum(sums)])
-    counts = map(sum, zip(*(edits_of(it) for it in crates)))
+    counts = map(sum, zip(*(counts_of_edits(it) for it in crates)))
     print(f"| all of these | {cells} | {', '.join(map(str, counts))} |")
 
 
-def longest_chain(table):
+def longest_chain(table: Seconds) -> Chain:
     """The crates of which each waits for the proof of the one before it, and what they take together. Beside the proof
     of the last one stand its tests, and behind both its edits."""
-    below, chains = edges(), {}
+    below = edges()
+    chains: dict[str, Chain] = {}
 
-    def before(crate):
+    def before(crate: str) -> Chain:
         return max([chain(it) for it in below[crate] if it in below], default=(0.0, []))
 
-    def chain(crate):
+    def chain(crate: str) -> Chain:
         if crate not in chains:
             spent, under = before(crate)
             chains[crate] = spent + table[crate, "proof"], [*under, crate]
         return chains[crate]
 
-    def whole(crate):
+    def whole(crate: str) -> Chain:
         spent, under = before(crate)
         proof, tests, edits = (table[crate, kind] for kind in KINDS)
         return spent + max(proof, tests) + edits, [*under, crate]
@@ -126,7 +136,7 @@ def longest_chain(table):
     return max(map(whole, below))
 
 
-def add(file, table):
+def add(file: Path, table: Seconds) -> Seconds:
     """The table with what the file has of earlier runs, which is then in the file."""
     if os.path.exists(file):
         with open(file) as it:
@@ -137,16 +147,16 @@ def add(file, table):
     return table
 
 
-def main():
-    parser = argparse.ArgumentParser(description=__doc__.splitlines()[0])
+def main() -> int:
+    parser = parser_of(__doc__)
     parser.add_argument("--log", default="gate.log", help="where what the gate prints goes")
     parser.add_argument("--add", metavar="FILE", help="what is known of earlier runs, to be added to")
     parser.add_argument("names", nargs="*", metavar="NAME", help="a crate; the gate then goes over it and those below")
     words = parser.parse_args()
     begin = time.time()
     with open(words.log, "w") as log:
-        how = {"cwd": TOP, "stdout": log, "stderr": subprocess.STDOUT, "stdin": subprocess.DEVNULL}
-        gate = subprocess.Popen(["rt", "ci", *words.names], **how)
+        gate = subprocess.Popen(["rt", "ci", *words.names], cwd=TOP, stdin=subprocess.DEVNULL, stdout=log,
+            stderr=subprocess.STDOUT)
         table = watch(lambda: gate.poll() is None, str(gate.pid))
     table = add(words.add, table) if words.add else table
     show(table)

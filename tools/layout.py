@@ -12,6 +12,7 @@ its own, so there the numbers are set, and a name that is missing or is none end
 import re
 import sys
 
+from harness.arguments import parser_of
 from harness.programs import TOP
 
 MESSAGES = TOP / "crates/messages/src"
@@ -19,15 +20,18 @@ HEADER = TOP / "bindings/c/skewguard.h"
 PYTHON = TOP / "bindings/python/src/skewguard/_numbers.py"
 RUST = TOP / "bindings/rust/src/numbers.rs"
 
+# Names with their numbers.
+Pairs = list[tuple[str, int]]
+
 ORIGIN = "Made by tools/layout.py, from the crate `messages`"
 
 
-def words_of(name):
+def words_of(name: str) -> str:
     """The words of a name, in capitals: OpenSession is OPEN_SESSION."""
     return re.sub(r"(?<=[a-z])(?=[A-Z])", "_", name).upper()
 
 
-def found(pattern, file):
+def found(pattern: str, file: str) -> Pairs:
     """Names and numbers, by a pattern with these two groups."""
     text = (MESSAGES / file).read_text(encoding="utf-8")
     pairs = [(words_of(it["name"]), int(it["number"])) for it in re.finditer(pattern, text)]
@@ -37,10 +41,11 @@ def found(pattern, file):
     return pairs
 
 
-def layout():
+def layout() -> int:
     """The number of the layout."""
     text = (MESSAGES / "replies.rt").read_text(encoding="utf-8")
-    return int(re.search(r"^const LAYOUT: u64 = (\d+);", text, re.MULTILINE)[1])
+    (number,) = re.findall(r"^const LAYOUT: u64 = (\d+);", text, re.MULTILINE)
+    return int(number)
 
 
 OPERATIONS = found(r"(?P<number>\d+) => Some\(Operation::(?P<name>\w+)\)", "operations.rt")
@@ -51,7 +56,7 @@ KINDS = found(r"(?m)^const (?P<name>\w+): u8 = (?P<number>\d+);", "replies.rt")
 IN_C = {"UNRESTORED": "JOURNAL_FAULT"}
 
 
-def python_text():
+def python_text() -> str:
     """The table of Python. Plain numbers: members of an enum take long to look up, and each call does some."""
     lines = [f'"""The numbers of requests and replies. {ORIGIN}."""', "", "# The number of the layout."]
     lines += [f"LAYOUT = {layout()}"]
@@ -65,7 +70,7 @@ def python_text():
     return "\n".join(lines) + "\n"
 
 
-def rust_text():
+def rust_text() -> str:
     """The table of Rust."""
     lines = [f"//! The numbers of requests and replies. {ORIGIN}.", ""]
     lines += ["// (all of them, whichever are in use)", "#![allow(dead_code)]", ""]
@@ -81,9 +86,12 @@ def rust_text():
     return "\n".join(lines) + "\n"
 
 
-def with_numbers(text, enum, prefix, pairs):
+def with_numbers(text: str, enum: str, prefix: str, pairs: Pairs) -> str:
     """The header with these numbers in an enum, which has these names and no others."""
-    begin, body, end = re.search(rf"(enum {enum} \{{\n)(.*?)(\n\}})", text, re.DOTALL).groups()
+    parts = re.search(rf"(enum {enum} \{{\n)(.*?)(\n\}})", text, re.DOTALL)
+    if not parts:
+        sys.exit(f"bindings/c/skewguard.h: there is no enum {enum}")
+    begin, body, end = parts.groups()
     names = re.findall(rf"^ +{prefix}(\w+) = \d+,?$", body, re.MULTILINE)
     if names != [name for name, _ in pairs]:
         differ = ", ".join(sorted(set(names) ^ {name for name, _ in pairs})) or "their order"
@@ -93,7 +101,7 @@ def with_numbers(text, enum, prefix, pairs):
     return re.sub(rf"(enum {enum} \{{\n).*?(\n\}})", lambda _: begin + body + end, text, count=1, flags=re.DOTALL)
 
 
-def header_text():
+def header_text() -> str:
     """The header with the numbers set."""
     text = HEADER.read_text(encoding="utf-8")
     for enum, prefix, pairs in (
@@ -105,15 +113,16 @@ def header_text():
     return re.sub(r"(?m)^#define SKEWGUARD_LAYOUT \d+$", f"#define SKEWGUARD_LAYOUT {layout()}", text)
 
 
-def main(words):
-    if words not in ([], ["--check"]):
-        sys.exit(__doc__)
+def main() -> None:
+    parser = parser_of(__doc__)
+    parser.add_argument("--check", action="store_true", help="writes nothing; says whether a binding has others")
+    checks = parser.parse_args().check
     for file, made in ((HEADER, header_text()), (PYTHON, python_text()), (RUST, rust_text())):
-        if words and (not file.exists() or file.read_text(encoding="utf-8") != made):
+        if checks and (not file.exists() or file.read_text(encoding="utf-8") != made):
             sys.exit(f"{file.relative_to(TOP)} has other numbers than the crate messages: run tools/layout.py")
-        if not words:
+        if not checks:
             file.write_text(made, encoding="utf-8")
 
 
 if __name__ == "__main__":
-    main(sys.argv[1:])
+    main()

@@ -6,14 +6,14 @@
 Each block of Rust on that page has to stand, line for line and but for what it is indented by, in a file of
 crates/rota/src. So what the page shows is proved and run.
 """
-import re
 import sys
 import textwrap
 
-from harness.programs import TOP
+from harness.crates import CRATES
+from harness.pages import code, page
 
 
-def stands(block, lines):
+def stands(block: list[str], lines: list[str]) -> bool:
     """Whether the lines of the block stand in these, one behind the other, each further in by the same."""
     for at in range(len(lines) - len(block) + 1):
         part = textwrap.dedent("\n".join(lines[at:at + len(block)])).splitlines()
@@ -22,10 +22,9 @@ def stands(block, lines):
     return False
 
 
-def main():
-    page = (TOP / "docs/LIBRARY.md").read_text(encoding="utf-8")
-    blocks = re.findall(r"^```rust\n(.*?)^```$", page, re.MULTILINE | re.DOTALL)
-    files = sorted((TOP / "crates/rota/src").iterdir())
+def main() -> int:
+    blocks = code(page("docs/LIBRARY.md"), "rust")
+    files = sorted((CRATES / "rota/src").iterdir())
     sources = [file.read_text(encoding="utf-8").splitlines() for file in files]
     missing = [block for block in blocks
         if not any(stands(textwrap.dedent(block).splitlines(), lines) for lines in sources)]
