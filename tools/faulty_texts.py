@@ -5,19 +5,22 @@
     tools/faulty_texts.py --write    runs them, and writes that file
     tools/faulty_texts.py [--write] PROGRAM      the same with a program that is built
 
-Else the program is built once, by `rt try`, which proves nothing. A text is of definitions; behind a line of three dashes
-stands a script.
+Else the program is built once, by `rt try`, which proves nothing. A text is of definitions; behind a line of three
+dashes stands a script.
 """
+from __future__ import annotations
+
 import difflib
 import os
 import pathlib
 import re
-import subprocess
 import sys
-import tempfile
+import typing
+from collections.abc import Mapping
 
+from harness.arguments import parser_of
 from harness.programs import TOP, run
-from harness.texts import placed, read, write
+from harness.texts import placed, read, temporary_folder, write
 
 SHOWN = f"{TOP}/docs/faulty_texts.txt"
 
@@ -27,7 +30,7 @@ CREATE TABLE ACCT (ID INTEGER PRIMARY KEY, OWNER VARCHAR(10), BAL INTEGER NOT NU
 """
 
 
-def rule(condition):
+def rule(condition: str) -> str:
     return TABLES + f"CREATE ASSERTION RULE CHECK ({condition});\n"
 
 
@@ -56,8 +59,10 @@ TEXTS = {
     "deep": rule("(" * 70 + "1 = 1" + ")" * 70),
     "unknown-table": rule("NOT EXISTS (\n    SELECT * FROM SHIFT S WHERE S.HOURS > 12)"),
     "unknown-column": rule("NOT EXISTS (SELECT * FROM ACCT WHERE BALL < 0)"),
-    "unknown-qualifier": rule("NOT EXISTS (SELECT * FROM SHIFTS S WHERE NOT EXISTS (SELECT * FROM DUTY D WHERE D.SHIFT = SHIFTS.ID))"),
-    "table-below": "CREATE ASSERTION RULE CHECK (NOT EXISTS (SELECT * FROM LATER));\nCREATE TABLE LATER (ID INTEGER PRIMARY KEY);\n",
+    "unknown-qualifier": rule(
+        "NOT EXISTS (SELECT * FROM SHIFTS S WHERE NOT EXISTS (SELECT * FROM DUTY D WHERE D.SHIFT = SHIFTS.ID))"),
+    "table-below": "CREATE ASSERTION RULE CHECK (NOT EXISTS (SELECT * FROM LATER));\n"
+        "CREATE TABLE LATER (ID INTEGER PRIMARY KEY);\n",
     "table-twice": TABLES + "CREATE TABLE DUTY (ID INTEGER PRIMARY KEY);\n",
     "column-twice": "CREATE TABLE T (ID INTEGER PRIMARY KEY, A INTEGER, B INTEGER,\n                A VARCHAR(9));\n",
     "no-key": "CREATE TABLE T (ID INTEGER, A INTEGER);\n",
@@ -66,76 +71,94 @@ TEXTS = {
     "sum-of-texts": rule("NOT EXISTS (SELECT SHIFT FROM DUTY GROUP BY SHIFT HAVING SUM(DOCTOR) > 1)"),
     "arithmetic-on-text": rule("NOT EXISTS (SELECT * FROM DUTY WHERE ONCALL + DOCTOR > 1)"),
     "exists-alone": rule("EXISTS (SELECT * FROM DUTY WHERE ONCALL = 1)"),
-    "two-rules": rule("NOT EXISTS (SELECT * FROM DUTY WHERE ONCALL > 1) AND NOT EXISTS (SELECT * FROM ACCT WHERE BAL < 0)"),
-    "not-linked": rule("NOT EXISTS (SELECT * FROM SHIFTS S WHERE NOT EXISTS (SELECT * FROM DUTY D WHERE D.ONCALL = 1))"),
+    "two-rules": rule(
+        "NOT EXISTS (SELECT * FROM DUTY WHERE ONCALL > 1) AND NOT EXISTS (SELECT * FROM ACCT WHERE BAL < 0)"),
+    "not-linked": rule(
+        "NOT EXISTS (SELECT * FROM SHIFTS S WHERE NOT EXISTS (SELECT * FROM DUTY D WHERE D.ONCALL = 1))"),
     "function-in-where": rule("NOT EXISTS (SELECT * FROM ACCT WHERE SUM(BAL) < 0)"),
     "group-without-having": rule("NOT EXISTS (SELECT OWNER FROM ACCT GROUP BY OWNER)"),
     "other-column-in-having": rule("NOT EXISTS (SELECT OWNER FROM ACCT GROUP BY OWNER HAVING BAL < 0)"),
-    "value-of-a-row": rule("NOT EXISTS (SELECT * FROM SHIFTS S WHERE (SELECT D.ONCALL FROM DUTY D WHERE D.SHIFT = S.ID) = 0)"),
-    "below-a-level": rule("NOT EXISTS (SELECT * FROM SHIFTS S WHERE EXISTS (SELECT * FROM DUTY D WHERE D.SHIFT = S.ID AND EXISTS (SELECT * FROM ACCT A WHERE A.ID = D.ID)))"),
+    "value-of-a-row": rule(
+        "NOT EXISTS (SELECT * FROM SHIFTS S WHERE (SELECT D.ONCALL FROM DUTY D WHERE D.SHIFT = S.ID) = 0)"),
+    "below-a-level": rule(
+        "NOT EXISTS (SELECT * FROM SHIFTS S WHERE EXISTS (SELECT * FROM DUTY D WHERE D.SHIFT = S.ID"
+        " AND EXISTS (SELECT * FROM ACCT A WHERE A.ID = D.ID)))"),
     "too-wide": rule("(SELECT SUM(BAL) FROM ACCT) * (SELECT COUNT(*) FROM ACCT) >= 0"),
-    "attributes": TABLES + "CREATE ASSERTION RULE CHECK (NOT EXISTS (SELECT * FROM DUTY WHERE ONCALL > 1))\n    INITIALLY DEFERRED NOT DEFERRABLE;\n",
+    "attributes": TABLES
+        + "CREATE ASSERTION RULE CHECK (NOT EXISTS (SELECT * FROM DUTY WHERE ONCALL > 1))\n    INITIALLY DEFERRED NOT DEFERRABLE;\n",
     "too-few-values": TABLES + "INSERT INTO DUTY VALUES (1, 7, 'KIM');\n",
     "text-for-number": TABLES + "INSERT INTO DUTY (ID, SHIFT) VALUES (1, 'NINE');\n",
     "null-for-not-null": TABLES + "INSERT INTO ACCT (ID, OWNER) VALUES (1, 'KIM');\n",
     "text-too-long": TABLES + "INSERT INTO DUTY VALUES (1, 7, 'MONTGOMERY-SMITH', 1);\n",
     "key-taken": TABLES + "INSERT INTO SHIFTS VALUES (7, 8);\nINSERT INTO SHIFTS VALUES (7, 9);\n",
-    "false-by-rows": TABLES + "CREATE ASSERTION SHORT CHECK (NOT EXISTS (SELECT * FROM SHIFTS WHERE HOURS > 12));\nINSERT INTO SHIFTS VALUES (7, 24);\n",
-    "false-by-groups": TABLES + "CREATE ASSERTION FUNDS CHECK (NOT EXISTS (SELECT OWNER FROM ACCT GROUP BY OWNER HAVING SUM(BAL) < 0));\nINSERT INTO ACCT VALUES (1, 'O''HARA', -5);\n",
+    "false-by-rows": TABLES
+        + "CREATE ASSERTION SHORT CHECK (NOT EXISTS (SELECT * FROM SHIFTS WHERE HOURS > 12));\nINSERT INTO SHIFTS VALUES (7, 24);\n",
+    "false-by-groups": TABLES
+        + "CREATE ASSERTION FUNDS CHECK (NOT EXISTS (SELECT OWNER FROM ACCT GROUP BY OWNER HAVING SUM(BAL) < 0));\n"
+        "INSERT INTO ACCT VALUES (1, 'O''HARA', -5);\n",
     "script-word": TABLES + "---\nALICE: BEGIN;\nALICE: COMIT;\n",
     "script-no-session": TABLES + "---\nALICE: BEGIN;\nINSERT INTO SHIFTS VALUES (7, 8);\n",
     "script-definition": TABLES + "---\nALICE: CREATE TABLE T (ID INTEGER PRIMARY KEY);\n",
     "script-transaction": TABLES + "---\nALICE: BEGIN TRANSACTION;\n",
     "script-read-write": TABLES + "---\nALICE: BEGIN READ WRITE;\n",
     "script-read-olny": TABLES + "---\nALICE: BEGIN READ OLNY;\n",
-    "script-statements": TABLES + "---\nALICE: BEGIN;\nALICE: UPDATE DUTY SET ONCAL = 1 WHERE ID = 7;\nALICE: DELETE FROM DUTY WHERE DOCTOR = 7;\nALICE: UPDATE SHIFTS SET ID = 8 WHERE ID = 7;\nALICE: VERDICT COVERED;\n",
+    "script-statements": TABLES
+        + "---\nALICE: BEGIN;\nALICE: UPDATE DUTY SET ONCAL = 1 WHERE ID = 7;\n"
+        "ALICE: DELETE FROM DUTY WHERE DOCTOR = 7;\nALICE: UPDATE SHIFTS SET ID = 8 WHERE ID = 7;\nALICE: VERDICT COVERED;\n",
 }
 
 
-def run_unproved(cases):
-    """What the program prints on each case, and the status, by its name: {name: (arguments, files)}."""
-    with tempfile.TemporaryDirectory() as folder, tempfile.TemporaryDirectory() as texts:
-        data = []
-        for name, (arguments, files) in cases.items():
-            write(f"{folder}/{name}", "")
-            write(f"{folder}/{name}.args", "\n".join(arguments) + "\n")
-            for file, text in files.items():
-                data += ["--data", f"{file}={write(f'{texts}/{len(data)}', text)}"]
-        words = ["rt", "try", "--cases", folder, *data]
-        done = subprocess.run(words, cwd=TOP / "crates/skewguard", capture_output=True, text=True)
-    parts = re.split(r"^== (\S+)\n", done.stdout, flags=re.M)
-    return dict(zip(parts[1::2], parts[2::2])), done.stderr[-3000:]
+class Case(typing.NamedTuple):
+    """A command line, and the texts of the files that it names."""
+
+    words: list[str]
+    files: dict[str, str]
 
 
-def run_program(program, cases):
+def run_unproved(cases: Mapping[str, Case]) -> tuple[dict[str, str], str]:
+    """What the program prints on each case, by its name; and what `rt try` says."""
+    with temporary_folder() as folder, temporary_folder() as texts:
+        data: list[str] = []
+        for name, case in cases.items():
+            write(folder / name, "")
+            write(folder / f"{name}.args", "\n".join(case.words) + "\n")
+            for file, text in case.files.items():
+                data += ["--data", f"{file}={write(texts / str(len(data)), text)}"]
+        words = ["rt", "try", "--cases", str(folder), *data]
+        _, output, error = run(words, cwd=TOP / "crates/skewguard", timeout=None)
+    parts = re.split(r"^== (\S+)\n", output, flags=re.M)
+    return dict(zip(parts[1::2], parts[2::2])), error[-3000:]
+
+
+def run_program(program: str, cases: Mapping[str, Case]) -> tuple[dict[str, str], str]:
     """The same, with a program that is built."""
     shown = {}
-    for name, (arguments, files) in cases.items():
-        with placed(*files.values(), names=list(files)) as paths:
-            folder = pathlib.Path(paths[0]).parent
-            shown[name] = run([program, *arguments], cwd=folder, stderr=None).output
+    for name, case in cases.items():
+        with placed(*case.files.values(), names=list(case.files)) as paths:
+            shown[name] = run([program, *case.words], cwd=pathlib.Path(paths[0]).parent, stderr=None).output
     return shown, ""
 
 
-def case_of(name, text):
+def case_of(name: str, text: str) -> Case:
     defs, _, script = text.partition("---\n") if "\n---\n" in text else (text, "", "")
     files = {f"{name}.sql": defs}
-    arguments = ["check", f"{name}.sql"]
     if script:
         files[f"{name}-script.sql"] = script
-        arguments.append(f"{name}-script.sql")
-    return arguments, files
+    return Case(["check", *files], files)
 
 
-def main(words):
+def main() -> int:
+    parser = parser_of(__doc__)
+    parser.add_argument("--write", action="store_true", help="writes docs/faulty_texts.txt")
+    parser.add_argument("program", nargs="?", help="a program that is built; without it `rt try` builds it")
+    given = parser.parse_args()
     cases = {name: case_of(name, text) for name, text in TEXTS.items()}
-    programs = [word for word in words if word != "--write"]
-    shown, said = run_program(os.path.abspath(programs[0]), cases) if programs else run_unproved(cases)
+    shown, said = run_program(os.path.abspath(given.program), cases) if given.program else run_unproved(cases)
     missing = [name for name in TEXTS if not shown.get(name)]
     if missing:
         sys.exit(f"{said}\nnothing was shown of {', '.join(missing)}")
     table = "".join(f"== {name}\n{shown[name].strip()}\n\n" for name in TEXTS)
-    if "--write" in words:
+    if given.write:
         write(SHOWN, table)
         return 0
     wanted = read(SHOWN)
@@ -147,4 +170,4 @@ def main(words):
 
 
 if __name__ == "__main__":
-    sys.exit(main(sys.argv[1:]))
+    sys.exit(main())

@@ -7,12 +7,16 @@ No answer may be a signal, a text cut short, or silence: there is one line on st
 report. What is expected of a text stands beside it here, as a status and the line; none of it is taken from the
 program.
 """
-import os
-import sys
-import tempfile
+from __future__ import annotations
 
-from harness.programs import run
-from harness.texts import placed, write
+import pathlib
+import sys
+import typing
+from collections.abc import Iterator
+
+from harness.arguments import parser_of
+from harness.programs import Answer, run, words_of_replay
+from harness.texts import Text, placed, temporary_folder, write
 
 MEGABYTES = 10
 LONG = MEGABYTES * 1000 * 1000
@@ -21,108 +25,131 @@ CLOSED = "COMMITS 0\nSERIAL\nREFUSED 0\nASSERTIONS 0\n"
 WHERE = "A: BEGIN; A: DELETE FROM T WHERE "
 
 
-def texts():
-    """What is given, as a name, DEFS, SCRIPT, and what is to be answered: the status, and standard error or output."""
-    yield "both files empty", "", "", 0, CLOSED
-    yield "a script of white space", TABLE, " \t\r\n" * 1000, 0, CLOSED
-    yield "a comment without an end of line", TABLE, "-- nothing", 0, CLOSED
+class Wanted(typing.NamedTuple):
+    """What is to be answered: the status, and what stands on standard error or output."""
+
+    status: int
+    line: str
+
+
+class Given(typing.NamedTuple):
+    """What is given, and what is to be answered."""
+
+    name: str
+    definitions: Text
+    script: Text
+    wanted: Wanted
+
+
+def texts() -> Iterator[Given]:
+    """Texts that are given, some of them short."""
+    yield Given("both files empty", "", "", taken())
+    yield Given("a script of white space", TABLE, " \t\r\n" * 1000, taken())
+    yield Given("a comment without an end of line", TABLE, "-- nothing", taken())
     for name, text, at in beginnings():
-        yield name, TABLE, text, *refused("SCRIPT", f"2 - SYNTAX {at}")
+        yield Given(name, TABLE, text, refused("SCRIPT", f"2 - SYNTAX {at}"))
     for name, byte in (("NUL", b"\0"), ("a byte outside ASCII", b"\xc3"), ("a control byte", b"\x07")):
-        yield f"{name} between tokens", TABLE, b"A: " + byte + b"BEGIN;", *refused("SCRIPT", "2 - SYNTAX 3")
+        yield Given(f"{name} between tokens", TABLE, b"A: " + byte + b"BEGIN;", refused("SCRIPT", "2 - SYNTAX 3"))
         quoted = b"INSERT INTO T VALUES ('" + byte + b"');"
-        yield f"{name} in a quoted text", quoted, "", *refused("DEFS", "2 - SYNTAX 22")
+        yield Given(f"{name} in a quoted text", quoted, "", refused("DEFS", "2 - SYNTAX 22"))
     name = "A" * 128
-    yield "a name of 128 bytes", TABLE, f"{name}: VERDICT B;", 0, f"{name}: REFUSED 14 - NO TRANSACTION\n{CLOSED}"
-    yield "a name of 129 bytes", TABLE, "A" * 129 + ": BEGIN;", *refused("SCRIPT", "2 - SYNTAX 0")
-    yield "a number past the limit", "INSERT INTO T VALUES (9000000000000000);", "", *refused("DEFS", "2 - SYNTAX 22")
+    yield Given("a name of 128 bytes", TABLE, f"{name}: VERDICT B;", taken(f"{name}: REFUSED 14 - NO TRANSACTION\n"))
+    yield Given("a name of 129 bytes", TABLE, "A" * 129 + ": BEGIN;", refused("SCRIPT", "2 - SYNTAX 0"))
+    past = "INSERT INTO T VALUES (9000000000000000);"
+    yield Given("a number past the limit", past, "", refused("DEFS", "2 - SYNTAX 22"))
     digits = WHERE + "ID = " + "9" * 10**6
-    yield "a number of a million digits", TABLE, digits, *refused("SCRIPT", f"2 - SYNTAX {len(WHERE) + 5}")
-    yield from long_texts()
+    yield Given("a number of a million digits", TABLE, digits, refused("SCRIPT", f"2 - SYNTAX {len(WHERE) + 5}"))
+    for thing, script, wanted in long_scripts():
+        yield Given(f"{MEGABYTES} MB of {thing}", TABLE, script, wanted)
 
 
-def beginnings():
+def beginnings() -> Iterator[tuple[str, str, int]]:
+    """Scripts that end too early, and where."""
     yield "a script that ends in a statement", "A: BEGIN; A: INSERT INTO T", 26
     yield "a script that ends in a quoted text", "A: BEGIN; A: INSERT INTO T VALUES (1, 'x", 38
 
 
-def long_texts():
+def long_scripts() -> Iterator[tuple[str, str, Wanted]]:
     """Ten megabytes of one thing, where it may stand and where it may not."""
-    size = f"{MEGABYTES} MB of"
-    yield f"{size} `(`", TABLE, "(" * LONG, *refused("SCRIPT", "2 - SYNTAX 0")
+    yield "`(`", "(" * LONG, refused("SCRIPT", "2 - SYNTAX 0")
     deep = refused("SCRIPT", f"19 - TOO DEEP {len(WHERE) + 64}")
-    yield f"{size} `(` in a condition", TABLE, WHERE + "(" * LONG, *deep
-    yield f"{size} quotes", TABLE, "'" * LONG, *refused("SCRIPT", "2 - SYNTAX 0")
-    yield f"{size} quotes without an end", TABLE, "'" * (LONG + 1), *refused("SCRIPT", "2 - SYNTAX 0")
-    yield f"{size} one name", TABLE, "A" * LONG, *refused("SCRIPT", "2 - SYNTAX 0")
-    yield f"{size} `OR`", TABLE, WHERE + "OR " * (LONG // 3), *refused("SCRIPT", f"2 - SYNTAX {len(WHERE)}")
+    yield "`(` in a condition", WHERE + "(" * LONG, deep
+    yield "quotes", "'" * LONG, refused("SCRIPT", "2 - SYNTAX 0")
+    yield "quotes without an end", "'" * (LONG + 1), refused("SCRIPT", "2 - SYNTAX 0")
+    yield "one name", "A" * LONG, refused("SCRIPT", "2 - SYNTAX 0")
+    yield "`OR`", WHERE + "OR " * (LONG // 3), refused("SCRIPT", f"2 - SYNTAX {len(WHERE)}")
     parts = " OR ".join(["ID = 1"] * (LONG // 10))
-    yield f"{size} `ID = 1 OR`", TABLE, f"{WHERE}{parts};", 0, "A: BEGIN 0\nA: DELETE 0\nA: ROLLBACK AT END\n" + CLOSED
-    yield f"{size} commas", TABLE, "A: INSERT INTO T VALUES (" + "," * LONG, *refused("SCRIPT", "2 - SYNTAX 25")
+    yield "`ID = 1 OR`", f"{WHERE}{parts};", taken("A: BEGIN 0\nA: DELETE 0\nA: ROLLBACK AT END\n")
+    yield "commas", "A: INSERT INTO T VALUES (" + "," * LONG, refused("SCRIPT", "2 - SYNTAX 25")
     values = "A: BEGIN; A: INSERT INTO T VALUES (" + ",".join("1" * (LONG // 2)) + ");"
-    yield f"{size} values", TABLE, values, 0, "A: BEGIN 0\nA: REFUSED 5 - TYPE\nA: ROLLBACK AT END\n" + CLOSED
+    yield "values", values, taken("A: BEGIN 0\nA: REFUSED 5 - TYPE\nA: ROLLBACK AT END\n")
     sessions = "".join(f"S{i}: BEGIN;" for i in range(LONG // 14))
-    yield f"{size} session names", TABLE, sessions, *refused("SCRIPT", "24 - TOO MANY SESSIONS")
+    yield "session names", sessions, refused("SCRIPT", "24 - TOO MANY SESSIONS")
 
 
-def refused(text, fault):
-    return 1, f"{text}: REFUSED {fault}\n"
+def taken(replies: str = "") -> Wanted:
+    """Both texts are taken, and nothing is committed."""
+    return Wanted(0, replies + CLOSED)
 
 
-def files(folder):
-    """Files that are none."""
-    missing, directory = f"{folder}/missing", f"{folder}/folder"
-    os.mkdir(directory)
-    empty = f"{folder}/empty"
+def refused(text: str, fault: str) -> Wanted:
+    """A text is refused."""
+    return Wanted(1, f"{text}: REFUSED {fault}\n")
+
+
+def files(folder: pathlib.Path) -> Iterator[tuple[str, pathlib.Path, pathlib.Path, Wanted]]:
+    """Files that are none: DEFS and SCRIPT, and what is to be answered."""
+    missing, directory, empty = folder / "missing", folder / "folder", folder / "empty"
+    directory.mkdir()
     write(empty, "")
-    yield "no such DEFS", missing, empty, 3, "DEFS: UNREADABLE\n"
-    yield "no such SCRIPT", empty, missing, 3, "SCRIPT: UNREADABLE\n"
-    yield "a folder for DEFS", directory, empty, 3, "DEFS: UNREADABLE\n"
-    yield "a folder for SCRIPT", empty, directory, 3, "SCRIPT: UNREADABLE\n"
+    for text, one, other in (("DEFS", missing, empty), ("SCRIPT", empty, missing)):
+        yield f"no such {text}", one, other, Wanted(3, f"{text}: UNREADABLE\n")
+    for text, one, other in (("DEFS", directory, empty), ("SCRIPT", empty, directory)):
+        yield f"a folder for {text}", one, other, Wanted(3, f"{text}: UNREADABLE\n")
 
 
-def replayed(program, defs, script, **how):
-    return run([program, "replay", defs, script], timeout=600, **how)
-
-
-def told(done, text):
+def told(done: Answer, wanted: Wanted) -> str:
     """What was answered: what stands on standard output where that was expected, else standard error."""
-    return done.output if text.endswith(CLOSED) else done.error
+    return done.output if wanted.line.endswith(CLOSED) else done.error
 
 
-def main(program):
-    wrong = 0
-    for name, one, two, status, line in texts():
-        with placed(one, two) as (defs, script):
-            wrong += judge(name, replayed(program, defs, script), status, line)
+def main() -> int:
+    parser = parser_of(__doc__)
+    parser.add_argument("program")
+    program, wrong = parser.parse_args().program, 0
+    for given in texts():
+        with placed(given.definitions, given.script) as (defs, script):
+            words = words_of_replay(program, defs, script)
+            wrong += judge(given.name, run(words), given.wanted)
             # (with little memory each is answered the same, or that there is none: never by a signal)
             for megabytes in (64, 256):
-                done = replayed(program, defs, script, kib=megabytes << 10)
-                wrong += judge_short(f"{name}, {megabytes} MB of memory", done, status, line)
-    with tempfile.TemporaryDirectory() as folder:
-        for name, one, two, status, line in files(folder):
-            wrong += judge(name, replayed(program, one, two), status, line)
+                done = run(words, kib=megabytes << 10)
+                wrong += judge_short(f"{given.name}, {megabytes} MB of memory", done, given.wanted)
+    with temporary_folder() as folder:
+        for name, one, other, wanted in files(folder):
+            wrong += judge(name, run(words_of_replay(program, one, other)), wanted)
     with placed(TABLE, "A: BEGIN;") as (defs, script), open("/dev/full", "wb") as full:
-        wrong += judge("a full disk", replayed(program, defs, script, stdout=full), 3, "")
+        wrong += judge("a full disk", run(words_of_replay(program, defs, script), stdout=full), Wanted(3, ""))
     print(f"{wrong} differ")
     return wrong != 0
 
 
-def judge(name, done, status, line):
-    got = told(done, line)
-    right = done.status == status and got == line
+def judge(name: str, done: Answer, wanted: Wanted) -> bool:
+    """Whether an answer is another one."""
+    got = told(done, wanted)
+    right = Wanted(done.status, got) == wanted
     print(f"{'as said' if right else 'DIFFERS'}  {name}: {done.status} {got[:60].splitlines()[:1]}")
     return not right
 
 
-def judge_short(name, done, status, line):
-    got = told(done, line)
+def judge_short(name: str, done: Answer, wanted: Wanted) -> bool:
+    """The same of an answer with little memory."""
     no_memory = done.status == 1 and "NO MEMORY" in done.error + done.output
-    right = no_memory or (done.status == status and got == line)
+    right = no_memory or Wanted(done.status, told(done, wanted)) == wanted
     if not right:
         print(f"DIFFERS  {name}: {done.status} {done.error[:80].encode('latin-1')!r}")
     return not right
 
 
 if __name__ == "__main__":
-    sys.exit(main(sys.argv[1]))
+    sys.exit(main())

@@ -9,19 +9,29 @@ recogniser does. That one knows the written grammar as data and tries every way 
 tokens begins some text of the language exactly while the chart is not empty. It shares no code and no idea with the
 parser in crates/parse.
 """
-import pathlib
+from __future__ import annotations
+
+import os
 import random
 import re
 import sys
+from collections.abc import Iterable, Iterator
 
+from harness.arguments import parser_of
 from harness.programs import replay
 from harness.texts import in_bytes, in_characters
 
-RESERVED = set("""ALL AND AS ASSERTION BEGIN BETWEEN BY CHECK COMMIT CONSTRAINTS COUNT CREATE DEFERRABLE DEFERRED DELETE EXISTS FALSE FROM
-GROUP HAVING IMMEDIATE IN INITIALLY INSERT INT INTEGER INTO IS KEY MAX MIN NOT NULL ONLY OR PRIMARY READ ROLLBACK SELECT SET SUM
-TABLE TRUE UNKNOWN UPDATE VALUES VARCHAR VERDICT WHERE WORK""".split())
+Way = tuple[str, ...]  # the symbols of one way of a rule
+Token = tuple[int, set[str]]  # the place of a token, and what it can stand for
+Item = tuple[str, Way, int, int]  # a rule's head, a way, how far it has come, and where it began
+Chart = list[set[Item]]
 
-# Quoted: a token; `name`, `number`, `width` (a number from 1 to 255), `text`: a kind of token; else a rule. `|` parts the ways.
+RESERVED = set("""ALL AND AS ASSERTION BEGIN BETWEEN BY CHECK COMMIT CONSTRAINTS COUNT CREATE DEFERRABLE DEFERRED
+DELETE EXISTS FALSE FROM GROUP HAVING IMMEDIATE IN INITIALLY INSERT INT INTEGER INTO IS KEY MAX MIN NOT NULL ONLY OR
+PRIMARY READ ROLLBACK SELECT SET SUM TABLE TRUE UNKNOWN UPDATE VALUES VARCHAR VERDICT WHERE WORK""".split())
+
+# Quoted: a token; `name`, `number`, `width` (a number from 1 to 255), `text`: a kind of token; else a rule. `|` parts
+# the ways.
 RULES = """
 defs = | def ';' defs
 script = | name ':' event ';' script
@@ -72,7 +82,7 @@ group = | 'GROUP' 'BY' colref
 having = | 'HAVING' cond
 """
 
-GRAMMAR = {}
+GRAMMAR: dict[str, list[Way]] = {}
 for rule in RULES.strip().splitlines():
     head, ways = rule.split(' = ', 1) if ' = ' in rule else (rule.split(' =')[0], rule.split(' =', 1)[1])
     for way in re.split(r"\s\|\s|^\|\s", ways if ways.startswith(' ') else ' ' + ways):
@@ -81,10 +91,12 @@ KINDS = {'name', 'number', 'width', 'text'}
 START = {'S': 'script', 'D': 'defs', 'E': 'event'}
 FAULT = re.compile(r'(?:DEFS|SCRIPT): REFUSED \d+ - SYNTAX (\d+)$|.* TOO DEEP .*$', re.MULTILINE)
 
-TOKEN = re.compile(r"(?P<word>[A-Za-z][A-Za-z0-9_]*)|(?P<number>[0-9]+)|(?P<text>'(?:[^\0-\x1f'\x7f]|'')*')|(?P<mark><>|<=|>=|[(),;:.*+\-=<>])")
+BETWEEN_TOKENS = re.compile(r'(?:[ \t\r\n]|--[^\n]*)*')
+TOKEN = re.compile(r"(?P<word>[A-Za-z][A-Za-z0-9_]*)|(?P<number>[0-9]+)|(?P<text>'(?:[^\0-\x1f'\x7f]|'')*')"
+                   r"|(?P<mark><>|<=|>=|[(),;:.*+\-=<>])")
 
 
-def is_utf8(text):
+def is_utf8(text: str) -> bool:
     """Whether the bytes of a text, each of which is one character here, spell characters."""
     try:
         in_characters(text)
@@ -93,11 +105,13 @@ def is_utf8(text):
     return True
 
 
-def tokens(text):
+def tokens(text: str) -> list[Token]:
     """(place, what it can stand for); a bad token stands for nothing and is the last."""
-    at, found = 0, []
+    at = 0
+    found: list[Token] = []
     while True:
-        at += len(re.match(r'(?:[ \t\r\n]|--[^\n]*)*', text[at:]).group())
+        between = BETWEEN_TOKENS.match(text, at)
+        at = between.end() if between else at
         if at == len(text):
             return found
         m = TOKEN.match(text, at)
@@ -116,14 +130,15 @@ def tokens(text):
         at = m.end()
 
 
-def closed(chart, i):
+def closed(chart: Chart, i: int) -> None:
     """All items of column i that its first ones lead to. An item is a rule's head, way, dot and origin."""
     work = list(chart[i])
     while work:
         head, way, dot, origin = work.pop()
         if dot < len(way) and way[dot] in GRAMMAR:
             new = [(way[dot], w, 0, i) for w in GRAMMAR[way[dot]]]
-            new += [(head, way, dot + 1, origin) for done in chart[i] if done[0] == way[dot] and done[2] == len(done[1]) and done[3] == i]
+            new += [(head, way, dot + 1, origin) for done in chart[i]
+                    if done[0] == way[dot] and done[2] == len(done[1]) and done[3] == i]
         elif dot == len(way):
             new = [(h, w, d + 1, o) for h, w, d, o in chart[origin] if d < len(w) and w[d] == head]
         else:
@@ -134,9 +149,10 @@ def closed(chart, i):
                 work.append(item)
 
 
-def place(start, text):
-    """None where the text is one of the language; else the offset of the first token that no text has there, or the length."""
-    chart = [{('whole', (start,), 0, 0)}]
+def place(start: str, text: str) -> int | None:
+    """None where the text is one of the language; else the offset of the first token that no text has there, or the
+    length."""
+    chart: Chart = [{('whole', (start,), 0, 0)}]
     closed(chart, 0)
     for i, (at, can) in enumerate(tokens(text)):
         chart.append({(h, w, d + 1, o) for h, w, d, o in chart[i] if d < len(w) and w[d] in can})
@@ -146,12 +162,13 @@ def place(start, text):
     return None if ('whole', (start,), 1, 0) in chart[-1] else len(text)
 
 
-def heights():
+def heights() -> dict[str, int]:
     """How deep the shortest derivation of each rule is."""
-    height = {}
+    height: dict[str, int] = {}
     while len(height) < len(GRAMMAR):
         for head, ways in GRAMMAR.items():
-            known = [1 + max((height.get(s, 0) for s in way), default=0) for way in ways if all(s not in GRAMMAR or s in height for s in way)]
+            known = [1 + max((height.get(s, 0) for s in way), default=0) for way in ways
+                     if all(s not in GRAMMAR or s in height for s in way)]
             if head not in height and known:
                 height[head] = min(known)
     return height
@@ -160,7 +177,7 @@ def heights():
 HEIGHT = heights()
 
 
-def lowest(ways):
+def lowest(ways: Iterable[Way]) -> Way:
     return min(ways, key=lambda way: max((HEIGHT.get(s, 0) for s in way), default=0))
 
 
@@ -173,7 +190,7 @@ OTHERS = sorted(RESERVED) + ['(', ')', ',', ';', '*', '-', '=', 'A', '5', '300',
 ILL_FORMED = ["'\x80'", "'\xc0\xaf'", "'\xed\xa0\x80'", "'\xf4\x90\x80\x80'", "'\xe2\x82'", "'\x7f'", "'\t'"]
 
 
-def made(rng, symbol, depth=0):
+def made(rng: random.Random, symbol: str, depth: int = 0) -> list[str]:
     """A random text of the symbol, as a list of spellings."""
     if symbol.startswith("'"):
         return [symbol[1:-1]]
@@ -184,7 +201,7 @@ def made(rng, symbol, depth=0):
     return [spelling for part in way for spelling in made(rng, part, depth + 1)]
 
 
-def spoilt(rng, spellings):
+def spoilt(rng: random.Random, spellings: Iterable[str]) -> list[str]:
     spellings = list(spellings)
     for _ in range(rng.choice([0, 1, 1, 2])):
         i, other = rng.randrange(len(spellings) + 1), rng.choice(OTHERS + ILL_FORMED)
@@ -200,9 +217,10 @@ def spoilt(rng, spellings):
     return spellings
 
 
-def texts(count):
+def texts(count: int) -> Iterator[tuple[str, str]]:
     """Short texts with the letter of what they are: D definitions, S a script. An event is the one of a script."""
-    rng, seen = random.Random(1992), set()
+    rng = random.Random(1992)
+    seen: set[tuple[str, str]] = set()
     while len(seen) < count:
         letter = rng.choice('SSDDE')
         text = ' '.join(spoilt(rng, made(rng, START[letter])))
@@ -213,16 +231,18 @@ def texts(count):
             yield letter, text
 
 
-def place_named(program, letter, text):
+def place_named(program: str, letter: str, text: str) -> int | None:
     """The place that the program names in a text, or None where the text is of the language for it."""
     fault = FAULT.search(replay(program, *(text if letter == whose else '' for whose in 'DS')).error)
     return None if fault is None else int(fault.group(1) or -1)
 
 
-def main():
-    if len(sys.argv) not in (2, 3):
-        sys.exit(__doc__)
-    program, count = str(pathlib.Path(sys.argv[1]).resolve()), int((sys.argv + [400])[2])
+def main() -> None:
+    parser = parser_of(__doc__)
+    parser.add_argument('program')
+    parser.add_argument('count', nargs='?', type=int, default=400)
+    given = parser.parse_args()
+    program, count = os.path.abspath(given.program), given.count
     read = different = 0
     for letter, text in texts(count):
         expected, named = place(START[letter], text), place_named(program, letter, text)
@@ -234,4 +254,5 @@ def main():
     sys.exit(different > 0)
 
 
-main()
+if __name__ == '__main__':
+    main()

@@ -21,17 +21,22 @@ this compiles), until a run meets no refusal. One of these must come of it:
 And where an event was answered so and stands in the script once more right behind, it is answered the second time as it
 would have been the first.
 """
+from __future__ import annotations
+
 import collections
 import itertools
 import os
+import pathlib
 import re
 import sys
-import tempfile
+import typing
+from collections.abc import Callable, Iterator, Sequence
 
-from harness.programs import run
+from harness.arguments import parser_of
+from harness.programs import Answer, run
 from harness.refusing import found_none, run_refusing, shim
 from harness.reports import places_without_memory, with_refused
-from harness.texts import placed
+from harness.texts import ended, placed, temporary_folder
 
 MARK = 7_654_321  # so many bytes are asked for by the test without memory, where memory ends
 
@@ -47,21 +52,29 @@ FUNDS = """CREATE ASSERTION FUNDS CHECK (NOT EXISTS (SELECT OWNER FROM ACCT GROU
     DEFERRABLE;
 """
 
-# By name: more definitions, the events, and words for the command line.
+
+class History(typing.NamedTuple):
+    """More definitions, the events, and words for the command line."""
+
+    definitions: str
+    events: list[str]
+    words: list[str]
+
+
 HISTORIES = {
-    "write_skew": ("", ["A: BEGIN", "B: BEGIN", "A: UPDATE DUTY SET ONCALL = 0 WHERE ID = 1",
+    "write_skew": History("", ["A: BEGIN", "B: BEGIN", "A: UPDATE DUTY SET ONCALL = 0 WHERE ID = 1",
         "B: UPDATE DUTY SET ONCALL = 0 WHERE ID = 2", "A: COMMIT", "B: COMMIT"], []),
-    "pivot_refused": ("", ["X: BEGIN", "P: BEGIN", "Y: BEGIN", "X: SELECT ONCALL FROM DUTY WHERE ID = 1",
+    "pivot_refused": History("", ["X: BEGIN", "P: BEGIN", "Y: BEGIN", "X: SELECT ONCALL FROM DUTY WHERE ID = 1",
         "P: SELECT BAL FROM ACCT WHERE ID = 1", "P: UPDATE DUTY SET ONCALL = 0 WHERE ID = 1",
         "Y: UPDATE ACCT SET BAL = 0 WHERE ID = 1", "Y: COMMIT", "X: COMMIT", "P: COMMIT"], []),
-    "same_key_inserted_twice": ("", ["A: BEGIN", "B: BEGIN", "A: INSERT INTO ACCT VALUES (9, 'LEE', 1)",
+    "same_key_inserted_twice": History("", ["A: BEGIN", "B: BEGIN", "A: INSERT INTO ACCT VALUES (9, 'LEE', 1)",
         "B: INSERT INTO ACCT VALUES (9, 'LEE', 2)", "A: COMMIT", "B: COMMIT"], []),
-    "deferred_then_immediate": (FUNDS, ["A: BEGIN", "A: SET CONSTRAINTS FUNDS DEFERRED",
+    "deferred_then_immediate": History(FUNDS, ["A: BEGIN", "A: SET CONSTRAINTS FUNDS DEFERRED",
         "A: INSERT INTO ACCT VALUES (9, 'LEE', -1)", "A: VERDICT FUNDS", "A: SET CONSTRAINTS ALL IMMEDIATE",
         "A: INSERT INTO ACCT VALUES (10, 'LEE', 5)", "A: SET CONSTRAINTS ALL IMMEDIATE", "A: COMMIT"], []),
-    "epoch_full": ("", ["A: BEGIN", "A: DELETE FROM ACCT WHERE ID = 1", "A: COMMIT", "A: BEGIN",
+    "epoch_full": History("", ["A: BEGIN", "A: DELETE FROM ACCT WHERE ID = 1", "A: COMMIT", "A: BEGIN",
         "A: SELECT * FROM ACCT", "A: COMMIT"], ["--max-commits", "1"]),
-    "rolled_back": ("", ["A: BEGIN", "A: INSERT INTO ACCT VALUES (9, 'LEE', 1)", "A: DELETE FROM DUTY", "A: ROLLBACK",
+    "rolled_back": History("", ["A: BEGIN", "A: INSERT INTO ACCT VALUES (9, 'LEE', 1)", "A: DELETE FROM DUTY", "A: ROLLBACK",
         "A: BEGIN", "A: SELECT * FROM ACCT", "B: VERDICT COVER", "B: BEGIN", "B: VERDICT COVER"], []),
 }
 
@@ -78,56 +91,62 @@ WITHOUT = ["without_memory::without_memory", *(f"lower_without_memory::{name}" f
 SAYS_NO_MEMORY = re.compile(r"^error: (NoMemory|AllocFailed.*|AllocError.*|Kind\(OutOfMemory\))$", re.MULTILINE)
 
 
+Count = collections.Counter[typing.Optional[str]]
+
+
 class Program:
-    def __init__(self, path, folder):
+    """The program, and what refuses it memory."""
+
+    def __init__(self, path: str, folder: pathlib.Path) -> None:
         self.path, self.shim = os.path.abspath(path), shim("refuse_malloc", folder)
 
-    def run(self, definitions, events, words, refuse=None):
+    def run(self, history: History, refuse: int = 0) -> tuple[Answer, int]:
         """What a replay answers, and whether an allocation was refused."""
-        with placed(TABLES + definitions, "".join(f"{event};\n" for event in events)) as files:
-            return self.call(["replay", *words, *files], **({"REFUSE": refuse} if refuse else {}))
+        with placed(TABLES + history.definitions, ended(history.events)) as files:
+            return self.call(["replay", *history.words, *files], **({"REFUSE": refuse} if refuse else {}))
 
-    def call(self, words, **told):
+    def call(self, words: Sequence[str], **told: int) -> tuple[Answer, int]:
         """The same of any words, and of whatever the shim is told."""
         return run_refusing([self.path, *words], self.shim, **told) if told else (run([self.path, *words]), 0)
 
 
-def judge(program, definitions, events, words, whole, got):
+def judge(program: Program, history: History, whole: str, got: Answer) -> str | None:
     """What came of a refused allocation, as a word; or None where it is none of what may come."""
     if found := found_none(got):
         return found
     if got.status != 0 or got.error:
         return None
+    events = history.events
     refused = places_without_memory(got.output, events)
     if not refused:
         return "as ever" if got.output == whole else None
     at = refused[0]
-    without = program.run(definitions, events[:at] + events[at + 1:], words)[0].output
+    without = program.run(history._replace(events=events[:at] + events[at + 1:]))[0].output
     return "an event" if got.output == with_refused(without, events, [at]) else None
 
 
-def each_refusal(run):
+def each_refusal(run_refused: Callable[[int], tuple[Answer, int]]) -> Iterator[tuple[int, Answer]]:
     """Each number, and what came of it, until a run meets no refusal."""
     for number in itertools.count(1):
-        answer, refused = run(number)
+        answer, refused = run_refused(number)
         if not refused:
             return
         yield number, answer
 
 
-def again(program, definitions, events, words, at, whole):
+def again(program: Program, history: History, at: int, whole: str) -> tuple[int, int]:
     """How often the event was refused memory where it stands twice, and how often it was then answered otherwise."""
-    twice = events[:at + 1] + events[at:]
+    twice = history.events[:at + 1] + history.events[at:]
     wanted = with_refused(whole, twice, [at])
     met = wrong = 0
-    for _, got in each_refusal(lambda number: program.run(definitions, twice, words, number)):
+    for _, got in each_refusal(lambda number: program.run(history._replace(events=twice), number)):
         if got.status == 0 and places_without_memory(got.output, twice)[:1] == [at]:
             met += 1
             wrong += got.output != wanted
     return met, wrong
 
 
-def judge_test(got):
+def judge_test(got: Answer) -> str | None:
     """What came of a refused allocation in a test, as a word; or None where it is none of what may come."""
     status, out, err = got
     if status == 0:
@@ -135,9 +154,9 @@ def judge_test(got):
     return "no memory" if status > 0 and SAYS_NO_MEMORY.search(out + err) else None
 
 
-def refuse_in_test(program, name):
+def refuse_in_test(program: Program, name: str) -> tuple[Count, int]:
     """How often each came of the test's refused allocations, and how many differ."""
-    count = collections.Counter()
+    count: Count = collections.Counter()
     for number, got in each_refusal(lambda number: program.call([name], REFUSE=number)):
         what = judge_test(got)
         if what is None:
@@ -147,22 +166,22 @@ def refuse_in_test(program, name):
     if not count or status != 0:
         print(f"DIFFERS  {name}: no allocation was refused, or it fails with all of them: status {status}")
         count[None] += 1
-    return dict(count), count[None]
+    return count, count[None]
 
 
-def refuse_behind(program, name):
-    """Whether a test without memory fails, or a call of it asks for memory."""
+def refuse_behind(program: Program, name: str) -> tuple[Count, int]:
+    """How many allocations were refused, and whether a test without memory fails, or a call of it asks for memory."""
     (status, out, err), refused = program.call([name], REFUSE_BEHIND=MARK)
     bad = status != 0 or refused != 1
     if bad:
         print(f"DIFFERS  {name}: status {status}, {refused} allocations refused, not 1\n{out}{err}")
-    return {"in vain": refused}, int(bad)
+    return collections.Counter({"in vain": refused}), int(bad)
 
 
-def try_tests(path, names, refuse):
+def try_tests(path: str, names: Sequence[str], refuse: Callable[[Program, str], tuple[Count, int]]) -> bool:
     """Whether a test is not in the program, or one differs."""
     bad = 0
-    with tempfile.TemporaryDirectory() as folder:
+    with temporary_folder() as folder:
         program = Program(path, folder)
         listed = {line.split(": ")[0] for line in program.call(["--list"])[0].output.splitlines()}
         for name in names:
@@ -172,26 +191,27 @@ def try_tests(path, names, refuse):
                 continue
             count, differ = refuse(program, name)
             bad += differ
-            print(f"{name}: {sum(count.values())} allocations refused: {count}", flush=True)
+            print(f"{name}: {sum(count.values())} allocations refused: {dict(count)}", flush=True)
     print(f"{bad} differ")
     return bad != 0
 
 
-def main(path, names):
+def try_histories(path: str, names: Sequence[str]) -> bool:
+    """Whether a history differs."""
     bad = 0
-    with tempfile.TemporaryDirectory() as folder:
+    with temporary_folder() as folder:
         program = Program(path, folder)
         for name in names or HISTORIES:
-            definitions, events, words = HISTORIES[name]
-            whole = program.run(definitions, events, words)[0].output
-            count = collections.Counter()
-            for number, got in each_refusal(lambda number: program.run(definitions, events, words, number)):
-                what = judge(program, definitions, events, words, whole, got)
+            history = HISTORIES[name]
+            whole = program.run(history)[0].output
+            count: Count = collections.Counter()
+            for number, got in each_refusal(lambda number: program.run(history, number)):
+                what = judge(program, history, whole, got)
                 if what is None:
                     bad += 1
                     print(f"DIFFERS  {name}, allocation {number}: status {got.status}, {got.error!r}\n{got.output}")
                 count[what] += 1
-            tried = [again(program, definitions, events, words, at, whole) for at in range(len(events))]
+            tried = [again(program, history, at, whole) for at in range(len(history.events))]
             met, otherwise = (sum(column) for column in zip(*tried))
             bad += otherwise
             print(f"{name}: {sum(count.values())} allocations refused: {dict(count)}; tried again {met} times,"
@@ -200,9 +220,20 @@ def main(path, names):
     return bad != 0
 
 
+def main() -> int:
+    parser = parser_of(__doc__)
+    which = parser.add_mutually_exclusive_group()
+    which.add_argument("--tests", action="store_true", help="PROGRAM is that of the tests of crates/manager_rows")
+    which.add_argument("--without", action="store_true", help="likewise, for the calls that take no memory")
+    parser.add_argument("program")
+    parser.add_argument("names", nargs="*", metavar="name")
+    given = parser.parse_args()
+    if given.tests:
+        return try_tests(given.program, TESTS, refuse_in_test)
+    if given.without:
+        return try_tests(given.program, WITHOUT, refuse_behind)
+    return try_histories(given.program, given.names)
+
+
 if __name__ == "__main__":
-    if sys.argv[1] == "--tests":
-        sys.exit(try_tests(sys.argv[2], TESTS, refuse_in_test))
-    if sys.argv[1] == "--without":
-        sys.exit(try_tests(sys.argv[2], WITHOUT, refuse_behind))
-    sys.exit(main(sys.argv[1], sys.argv[2:]))
+    sys.exit(main())

@@ -8,7 +8,10 @@ fast the machine is. All subcommands wait at the same time. Wanted of each: on t
 date, wiped before anything else is written, and nothing else but a fault; and on standard output what is printed
 where standard error is no terminal. There no line is to be seen, though the program waits for as long.
 """
+from __future__ import annotations
+
 import os
+import pathlib
 import pty
 import re
 import subprocess
@@ -16,8 +19,12 @@ import sys
 import tempfile
 import threading
 import time
+import typing
+from collections.abc import Iterator
 
-from harness.programs import from_terminal
+from harness.arguments import parser_of
+from harness.programs import Stream, from_terminal
+from harness.texts import temporary_folder, write
 
 DEFS = """CREATE TABLE T (ID INTEGER PRIMARY KEY, A INTEGER);
 CREATE ASSERTION POSITIVE CHECK (NOT EXISTS (SELECT * FROM T WHERE A < 0));
@@ -34,26 +41,27 @@ PATIENCE = 60
 class Run:
     """The program with a named pipe for definitions. `on` tells which of its streams a terminal gets."""
 
-    def __init__(self, program, folder, name, defs, on):
+    def __init__(self, program: str, folder: pathlib.Path, name: str, defs: str, on: tuple[str, ...]) -> None:
         self.name, self.defs, self.on = f"{name} with a terminal for {' and '.join(on) or 'nothing'}", defs, on
-        self.path = os.path.join(folder, f"{name}-{len(defs)}-{len(on)}.sql")
+        self.path = folder / f"{name}-{len(defs)}-{len(on)}.sql"
         os.mkfifo(self.path)
-        words = [program, name, self.path]
+        words: list[str | pathlib.Path] = [program, name, self.path]
         if name not in WITHOUT_SCRIPT:
-            words.append(os.path.join(folder, "script.sql"))
+            words.append(folder / "script.sql")
+        self.printed = self.said = b""
         self.shown, self.files = b"", [tempfile.TemporaryFile(), tempfile.TemporaryFile()]
         self.terminal, end = pty.openpty()
-        streams = [end if name in on else file for name, file in zip(("output", "errors"), self.files)]
+        streams: list[Stream] = [end if name in on else file for name, file in zip(("output", "errors"), self.files)]
         self.process = subprocess.Popen(words, stdin=subprocess.DEVNULL, stdout=streams[0], stderr=streams[1])
         os.close(end)
         self.reader = threading.Thread(target=self.read_terminal)
         self.reader.start()
 
-    def read_terminal(self):
+    def read_terminal(self) -> None:
         while more := from_terminal(self.terminal):
             self.shown += more
 
-    def feed(self):
+    def feed(self) -> None:
         """Waits for the line to come twice, or for as long as that takes, and then hands the definitions over."""
         with open(self.path, "wb") as pipe:
             end = time.monotonic() + (PATIENCE if "errors" in self.on else 2.5)
@@ -61,7 +69,7 @@ class Run:
                 time.sleep(0.05)
             pipe.write(self.defs.encode())
 
-    def finish(self):
+    def finish(self) -> None:
         self.feed()
         self.process.wait(PATIENCE)
         self.reader.join()
@@ -70,20 +78,20 @@ class Run:
         # (a terminal turns each end of a line into two bytes)
         self.shown = self.shown.replace(b"\r\n", b"\n")
 
-    def behind_the_line(self):
+    def behind_the_line(self) -> bytes | None:
         """What the terminal got behind the line; None where the line is not as it is wanted."""
         found = WIPED.match(self.shown)
         return self.shown[found.end():] if found else None
 
 
-def whole(file):
+def whole(file: typing.IO[bytes]) -> bytes:
     """What was written to a file."""
     with file:
         file.seek(0)
         return file.read()
 
 
-def faults_of(plain, errors, both, refused):
+def faults_of(plain: Run, errors: Run, both: Run, refused: Run) -> Iterator[tuple[Run, bytes]]:
     """What is not as it is wanted, of one subcommand."""
     if plain.said or plain.shown:
         yield plain, plain.said + plain.shown
@@ -101,11 +109,14 @@ def faults_of(plain, errors, both, refused):
             yield run, b"the status is %d" % run.process.returncode
 
 
-def main(program):
-    with tempfile.TemporaryDirectory() as folder:
-        with open(os.path.join(folder, "script.sql"), "w", encoding="utf-8") as it:
-            it.write(SCRIPT)
-        ways = ((DEFS, ()), (DEFS, ("errors",)), (DEFS, ("output", "errors")), ("CREATE TABEL", ("errors",)))
+def main() -> int:
+    parser = parser_of(__doc__)
+    parser.add_argument("program")
+    program = os.path.abspath(parser.parse_args().program)
+    ways: list[tuple[str, tuple[str, ...]]] = [
+        (DEFS, ()), (DEFS, ("errors",)), (DEFS, ("output", "errors")), ("CREATE TABEL", ("errors",))]
+    with temporary_folder() as folder:
+        write(folder / "script.sql", SCRIPT)
         runs = [[Run(program, folder, name, defs, on) for defs, on in ways] for name in SUBCOMMANDS]
         feeders = [threading.Thread(target=run.finish) for some in runs for run in some]
         for feeder in feeders:
@@ -120,4 +131,4 @@ def main(program):
 
 
 if __name__ == "__main__":
-    sys.exit(main(os.path.abspath(sys.argv[1])))
+    sys.exit(main())

@@ -10,19 +10,21 @@ rows of the definitions to those behind each transaction. Then the journal is to
 shell while it is read, damaged, and read with other definitions; each answer has to be the one that docs/JOURNAL.md
 has. The last case has N rows.
 """
-import argparse
+from __future__ import annotations
+
 import os
 import pathlib
 import re
 import sqlite3
 import subprocess
 import sys
-import tempfile
 import typing
+from collections.abc import Callable, Iterable, Sequence
 
+from harness.arguments import parser_of
 from harness.journals import DAMAGED, SELECT, lines_of
-from harness.programs import Answer, run
-from harness.texts import in_bytes, in_characters, placed, write
+from harness.programs import Answer, Word, pipe, run
+from harness.texts import Value, in_bytes, in_characters, literal, placed, temporary_folder, write
 
 VALUE = r"(?:NULL|-?\d+|'(?:[^']|'')*')"
 ROW = rf"(none|\({VALUE}(?:, {VALUE})*\))"
@@ -33,8 +35,7 @@ REFUSED = 1
 WIDE = "CREATE TABLE T (ID INTEGER PRIMARY KEY, " + ", ".join(f"C{n} INTEGER" for n in range(2000)) + ");"
 REFUSED_BY_SQLITE = {"CREATE TABLE SQLITE_T (ID INTEGER PRIMARY KEY);": "SQLITE_T", WIDE: "T"}
 
-
-Rows = typing.Dict[str, typing.List[str]]
+Rows = dict[str, list[str]]
 
 
 class Case(typing.NamedTuple):
@@ -42,8 +43,8 @@ class Case(typing.NamedTuple):
 
     name: str
     definitions: str
-    transactions: typing.Sequence[str]
-    columns: typing.Dict[str, str]
+    transactions: Sequence[str]
+    columns: dict[str, str]
 
 
 CASES = [
@@ -74,11 +75,9 @@ def large(rows: int) -> Case:
         ["A: UPDATE T SET B = ID WHERE ID > 3;"], {"T": "ID, A, B"})
 
 
-def literal(value: typing.Union[None, int, str]) -> str:
+def written(value: Value) -> str:
     """A value as the shell writes it."""
-    if isinstance(value, str):
-        return "'" + in_bytes(value.replace("'", "''")) + "'"
-    return "NULL" if value is None else str(value)
+    return in_bytes(literal(value))
 
 
 def loaded(text: str) -> sqlite3.Connection:
@@ -90,12 +89,12 @@ def loaded(text: str) -> sqlite3.Connection:
     return database
 
 
-def rows_of(database: sqlite3.Connection, table: str, columns: str) -> typing.List[str]:
+def rows_of(database: sqlite3.Connection, table: str, columns: str) -> list[str]:
     quoted = ", ".join(f'"{column}"' for column in columns.split(", "))
-    return sorted(", ".join(map(literal, row)) for row in database.execute(f'SELECT {quoted} FROM "{table}"'))
+    return sorted(", ".join(map(written, row)) for row in database.execute(f'SELECT {quoted} FROM "{table}"'))
 
 
-def differences(case: Case, printed: Answer, wanted: Rows) -> typing.List[str]:
+def differences(case: Case, printed: Answer, wanted: Rows) -> list[str]:
     """What SQLite has otherwise than the shell, where it is given what was printed."""
     if printed.status or printed.error:
         return [f"{case.name}: {printed}"]
@@ -113,7 +112,7 @@ def differences(case: Case, printed: Answer, wanted: Rows) -> typing.List[str]:
     return found
 
 
-def selected(case: Case, answer: typing.Callable[[str], typing.Iterable[str]]) -> Rows:
+def selected(case: Case, answer: Callable[[str], Iterable[str]]) -> Rows:
     """The rows of each table, by what the shell answers to a query."""
     return {table: sorted(line[2:] for line in answer(SELECT.format(f"{columns} FROM {table}")) if line[:2] == "  ")
         for table, columns in case.columns.items()}
@@ -122,20 +121,20 @@ def selected(case: Case, answer: typing.Callable[[str], typing.Iterable[str]]) -
 class Trial:
     """A case in a folder: its definitions, its journal, the rows that the shell selects, and what differs."""
 
-    def __init__(self, program: str, case: Case, folder: str):
+    def __init__(self, program: str, case: Case, folder: pathlib.Path) -> None:
         self.program, self.case = program, case
-        self.definitions = write(pathlib.Path(folder, "defs.sql"), case.definitions.encode())
-        self.journal = str(pathlib.Path(folder, "ledger"))
-        self.found: typing.List[str] = []
-        self.states: typing.List[Rows] = []
+        self.definitions = write(folder / "defs.sql", case.definitions.encode())
+        self.journal = folder / "ledger"
+        self.found: list[str] = []
+        self.states: list[Rows] = []
 
     # (no text is cut at its lines by splitlines, which takes bytes of UTF-8 for ends of lines)
 
-    def on_journal(self, script: str) -> typing.List[str]:
-        words = [self.program, "shell", self.definitions, "--journal", self.journal]
+    def on_journal(self, script: str) -> list[str]:
+        words = self.program, "shell", self.definitions, "--journal", self.journal
         return run(words, script.encode()).output.split("\n")
 
-    def printed(self, *words: object, status: int = 0, error: str = "") -> Answer:
+    def printed(self, *words: Word, status: int = 0, error: str = "") -> Answer:
         """What is printed of the definitions, or of the journal. Nothing is where a status or an error is wanted."""
         answer = run([self.program, "sqlite", self.definitions, *words])
         if answer.status != status or error not in answer.error or status and answer.output:
@@ -169,8 +168,9 @@ class Trial:
         """What the changes of each commit make of the rows of the image."""
         held = [{f"({row})" for row in self.states[0][table]} for table in self.case.columns]
         answer = run([self.program, "journal", self.journal, "--commits"])
-        lines = [CHANGE.fullmatch(line) for line in answer.output.split("\n")[:-1]]
-        if answer.status or None in lines:
+        told = answer.output.split("\n")[:-1]
+        lines = [line for line in map(CHANGE.fullmatch, told) if line]
+        if answer.status or len(lines) < len(told):
             self.found.append(f"{self.case.name}: {answer}")
             return
         for number in range(1, len(self.states)):
@@ -184,22 +184,23 @@ class Trial:
 
     def in_use(self) -> None:
         """The journal is read while a shell has it open, and goes on."""
-        def answer(script: str) -> typing.List[str]:
-            shell.stdin.write(script.encode() + b"Z: ROLLBACK;\n")
-            shell.stdin.flush()
+        def answer(script: str) -> list[str]:
+            into.write(script.encode() + b"Z: ROLLBACK;\n")
+            into.flush()
             lines = []
-            while (line := shell.stdout.readline().decode("latin-1")) not in ("", NO_TRANSACTION):
+            while (line := out.readline().decode("latin-1")) not in ("", NO_TRANSACTION):
                 lines.append(line.rstrip("\n"))
             return lines
 
-        words = [self.program, "shell", self.definitions, "--journal", self.journal]
+        words = [self.program, "shell", self.definitions, "--journal", str(self.journal)]
         with subprocess.Popen(words, stdin=subprocess.PIPE, stdout=subprocess.PIPE) as shell:
+            into, out = pipe(shell.stdin), pipe(shell.stdout)
             self.of_journal(len(self.states) - 1, selected(self.case, answer))
-            shell.stdin.close()
+            into.close()
 
     def of_broken(self) -> None:
         """The journal is torn in its last commit, damaged before it, and read with other definitions."""
-        file = pathlib.Path(self.journal).read_bytes()
+        file = self.journal.read_bytes()
         last = lines_of(file)[-1]
         for cut in (last.end - 1, last.start + 5, last.start):
             write(self.journal, file[:cut] + bytes(len(file) - cut))
@@ -211,8 +212,8 @@ class Trial:
         self.printed("--journal", self.journal, status=REFUSED, error="is of other definitions")
 
 
-def judge(program: str, case: Case) -> typing.List[str]:
-    with tempfile.TemporaryDirectory() as folder:
+def judge(program: str, case: Case) -> list[str]:
+    with temporary_folder() as folder:
         trial = Trial(program, case, folder)
         trial.of_definitions()
         for text in ["", *case.transactions]:
@@ -223,7 +224,7 @@ def judge(program: str, case: Case) -> typing.List[str]:
         return trial.found
 
 
-def refusals(program: str) -> typing.List[str]:
+def refusals(program: str) -> list[str]:
     """Tables that SQLite does not take are refused, and nothing is printed."""
     found = []
     for text, name in REFUSED_BY_SQLITE.items():
@@ -235,7 +236,7 @@ def refusals(program: str) -> typing.List[str]:
 
 
 def main() -> int:
-    parser = argparse.ArgumentParser(description=__doc__.splitlines()[0])
+    parser = parser_of(__doc__)
     parser.add_argument("program")
     parser.add_argument("--rows", type=int, default=5000)
     words = parser.parse_args()

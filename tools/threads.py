@@ -8,35 +8,52 @@ of crates/skewguard/data that is crates/skewguard/stdout, and of the others what
 no thread is to be had (tools/refuse_threads.c, which this compiles) the session is told so in one line, the commits
 are none, and the status is 1; a replay needs no thread.
 """
+from __future__ import annotations
+
 import os
 import sys
-import tempfile
+import typing
+from collections.abc import Iterator
 
+from harness.arguments import parser_of
 from harness.programs import TOP, Answer, run_on
 from harness.refusing import shim
-from harness.texts import read
+from harness.texts import ended, read, temporary_folder
 from refused_growth import HISTORIES, TABLES
 
 DATA = TOP / "crates/skewguard/data"
 WITHOUT = "A: REFUSED 24 - TOO MANY SESSIONS\nCOMMITS 0\nSERIAL\nREFUSED 0\n"
 
 
-def texts():
-    """By name: definitions, a script, words for the command line, and what is wanted, if it stands in a file."""
-    yield "data", read(DATA / "defs.sql"), read(DATA / "script.sql"), [], read(TOP / "crates/skewguard/stdout")
-    for name, (more, events, words) in HISTORIES.items():
-        if {event.split(":")[0] for event in events} == {"A"}:
-            yield name, TABLES + more, "".join(f"{event};\n" for event in events), words, None
+class Texts(typing.NamedTuple):
+    """Definitions, a script, words for the command line, and what is wanted, if it stands in a file."""
+
+    name: str
+    definitions: str
+    script: str
+    words: list[str]
+    wanted: str | None
 
 
-def closing_of(output):
+def texts() -> Iterator[Texts]:
+    """All that is run here."""
+    wanted = read(TOP / "crates/skewguard/stdout")
+    yield Texts("data", read(DATA / "defs.sql"), read(DATA / "script.sql"), [], wanted)
+    for name, it in HISTORIES.items():
+        if {event.split(":")[0] for event in it.events} == {"A"}:
+            yield Texts(name, TABLES + it.definitions, ended(it.events), it.words, None)
+
+
+def closing_of(output: str) -> str:
     """The assertions' truths on the loaded tables, as a replay of no event has them."""
     return "".join(output.rpartition("ASSERTIONS ")[1:])
 
 
-def main(path):
-    program, bad, count = os.path.abspath(path), 0, 0
-    with tempfile.TemporaryDirectory() as folder:
+def main() -> int:
+    parser = parser_of(__doc__)
+    parser.add_argument("program")
+    program, bad, count = os.path.abspath(parser.parse_args().program), 0, 0
+    with temporary_folder() as folder:
         refused = {"LD_PRELOAD": shim("refuse_threads", folder)}
         for name, defs, script, words, wanted in texts():
             replays, threads = ([program, command, *words] for command in ("replay", "threads"))
@@ -56,4 +73,4 @@ def main(path):
 
 
 if __name__ == "__main__":
-    sys.exit(main(sys.argv[1]))
+    sys.exit(main())
