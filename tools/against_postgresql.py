@@ -20,166 +20,272 @@ holds of a key that another session has put in since the snapshot (23505 on Post
 PostgreSQL may also wait for another one's row; where its COMMIT comes later for that, it is counted the same way.
 After each COMMIT on PostgreSQL every rule is evaluated from scratch, and none may be false.
 """
-import argparse
+from __future__ import annotations
+
+import collections
 import contextlib
 import os
 import random
+import statistics
 import sys
 import time
+import typing
+from collections.abc import Callable, Iterable, Mapping, Sequence
 
 import psycopg2
 
 from harness import loads
-from harness.programs import replay, run_on
+from harness.arguments import parser_of
+from harness.programs import Answer, replay, run_on
 from harness.reports import replies
 from harness.servers import Player, ServerOfCases
-from harness.texts import in_characters
+from harness.texts import ended, in_characters, literal
+
+if typing.TYPE_CHECKING:
+    from psycopg2.extensions import cursor as Cursor
 
 COMPARES = ['=', '<>', '<', '<=', '>', '>=']
+NOT = ['', 'NOT ']
 NUMBERS = [0, 1, 2, 3, 4, -1, -2, 5, 7, 10, 10 ** 15, -10 ** 15, 999999999999999]
 TEXTS = ['A', 'B', '', "O'N", 'ab', 'b ', 'zz~', '\\', '$x$', 'KIM', 'ABCDEFGHIJ', 'Žofie', 'é', '字字', '🙂']
 
 
-class Maker:
-    """Makes one case. A table is a list of columns (name, type, takes NULL, is the key); the key stands first or not."""
+T = typing.TypeVar('T')
 
-    def __init__(self, rng, sessions):
+
+class Tree(typing.NamedTuple):
+    """An expression or a condition, from which both languages are printed: its kind, its words, and what is in it."""
+
+    kind: str
+    words: tuple[str, ...] = ()
+    parts: tuple[Tree, ...] = ()
+
+
+NULL = Tree('null')
+
+
+def number(value: int) -> Tree:
+    return Tree('number', (str(value),))
+
+
+def query(text: str) -> Tree:
+    return Tree('query', (text,))
+
+
+def joined(kind: str, *parts: Tree) -> Tree:
+    """What has no words of its own: a product, a negation, NOT, AND and OR."""
+    return Tree(kind, (), parts)
+
+
+def signed(kind: str, sign: str, one: Tree, other: Tree) -> Tree:
+    """A sum or a comparison."""
+    return Tree(kind, (sign,), (one, other))
+
+
+def tested(kind: str, part: Tree, *words: str) -> Tree:
+    """IS NULL, and IS TRUE."""
+    return Tree(kind, words, (part,))
+
+
+def spanned(kind: str, part: Tree, word: str, *others: Tree) -> Tree:
+    """BETWEEN and IN."""
+    return Tree(kind, (word,), (part, *others))
+
+
+class Column(typing.NamedTuple):
+    """A column of a table."""
+
+    name: str
+    type: str
+    takes_null: bool
+    is_key: bool
+
+    @property
+    def kind(self) -> str:
+        """The kind of its values."""
+        return 'INTEGER' if self.type == 'INTEGER' else 'TEXT'
+
+
+class Statement(typing.NamedTuple):
+    """A statement, or a part of one, for skewguard and for PostgreSQL."""
+
+    own: str
+    theirs: str
+
+
+class Event(typing.NamedTuple):
+    """A statement of a session."""
+
+    session: str
+    own: str
+    theirs: str
+
+
+class Maker:
+    """Makes one case. The key of a table stands first or not."""
+
+    def __init__(self, rng: random.Random, sessions: int) -> None:
         self.rng, self.sessions = rng, sessions
-        self.tables, self.assertions = {}, []
+        self.tables: dict[str, list[Column]] = {}
+        self.assertions: list[str] = []
         self.all_deferred = self.chance(0.25)
 
-    def pick(self, choices):
+    def pick(self, choices: Iterable[T]) -> T:
         return self.rng.choice(list(choices))
 
-    def chance(self, p):
+    def chance(self, p: float) -> bool:
         return self.rng.random() < p
 
-    # Expressions and conditions are trees: both languages are printed from them.
-
-    def constant(self, kind, null=0.0):
+    def constant(self, kind: str, null: float = 0.0) -> Tree:
         if self.chance(null):
-            return ('null',)
+            return NULL
         if kind == 'INTEGER':
-            return ('number', self.pick(NUMBERS[:6]) if self.chance(0.7) else self.pick(NUMBERS[:10]) if self.chance(0.95) else self.pick(NUMBERS))
-        return ('text', self.pick(TEXTS[:4]) if self.chance(0.7) else self.pick(TEXTS))
+            few = NUMBERS[:6] if self.chance(0.7) else NUMBERS[:10] if self.chance(0.95) else NUMBERS
+            return number(self.pick(few))
+        return Tree('text', (self.pick(TEXTS[:4] if self.chance(0.7) else TEXTS),))
 
-    def column(self, table, kind, row=''):
-        found = [c for c in self.tables[table] if (c[1] == 'INTEGER') == (kind == 'INTEGER')]
-        return ('column', row, self.pick(found)[0]) if found else self.constant(kind)
+    def column(self, table: str, kind: str, row: str = '') -> Tree:
+        found = [column for column in self.tables[table] if column.kind == kind]
+        return Tree('column', (row, self.pick(found).name)) if found else self.constant(kind)
 
-    def atom(self, table, kind, row, atoms):
+    def key(self, table: str) -> Column:
+        return next(column for column in self.tables[table] if column.is_key)
+
+    def atom(self, table: str | None, kind: str, row: str, atoms: Sequence[Tree]) -> Tree:
         if atoms and self.chance(0.7):
             return self.pick(atoms)
         return self.constant(kind) if table is None or self.chance(0.4) else self.column(table, kind, row)
 
-    def expression(self, table, kind, row='', atoms=(), depth=0):
+    def expression(self, table: str | None, kind: str, row: str = '', atoms: Sequence[Tree] = (),
+                   depth: int = 0) -> Tree:
         if kind != 'INTEGER' or depth > 1 or self.chance(0.6):
             return self.atom(table, kind, row, atoms)
         a, b = (self.expression(table, kind, row, atoms, depth + 1) for _ in range(2))
-        return self.pick([('sum', '+', a, b), ('sum', '-', a, b), ('negation', a), ('sum', '+', a, ('number', 1)),
-                          ('product', a, ('number', 2)), ('product', a, b)] if depth else [('sum', '+', a, b), ('sum', '-', a, b), ('product', a, ('number', 3))])
+        sums = [signed('sum', '+', a, b), signed('sum', '-', a, b)]
+        if not depth:
+            return self.pick([*sums, joined('product', a, number(3))])
+        return self.pick([*sums, joined('negation', a), signed('sum', '+', a, number(1)),
+                          joined('product', a, number(2)), joined('product', a, b)])
 
-    def test(self, table, row='', atoms=(), extra=(), depth=0):
+    def test(self, table: str | None, row: str = '', atoms: Sequence[Tree] = (), extra: Sequence[Tree] = (),
+             depth: int = 0) -> Tree:
         if extra and self.chance(0.35):
             return self.pick(extra)
         if depth < 2 and self.chance(0.3):
             a, b = (self.condition(table, row, atoms, extra, depth + 1) for _ in range(2))
-            return self.pick([('and', a, b), ('or', a, b), ('not', a), ('is', a, self.pick(['', 'NOT ']), self.pick(['TRUE', 'FALSE', 'UNKNOWN']))])
+            return self.pick([joined('and', a, b), joined('or', a, b), joined('not', a),
+                              tested('is', a, self.pick(NOT), self.pick(['TRUE', 'FALSE', 'UNKNOWN']))])
         kind = 'INTEGER' if atoms else self.pick(['INTEGER', 'INTEGER', 'TEXT'])
-        e = lambda: self.expression(table, kind, row, atoms)
-        return self.pick([('compare', self.pick(COMPARES), e(), e()), ('compare', '=', e(), self.constant(kind)), ('null test', e(), self.pick(['', 'NOT '])),
-                          ('between', e(), self.pick(['', 'NOT ']), e(), e()), ('in', e(), self.pick(['', 'NOT ']), e(), e())])
 
-    def condition(self, table, row='', atoms=(), extra=(), depth=0):
+        def e() -> Tree:
+            return self.expression(table, kind, row, atoms)
+
+        return self.pick([signed('compare', self.pick(COMPARES), e(), e()),
+                          signed('compare', '=', e(), self.constant(kind)), tested('null test', e(), self.pick(NOT)),
+                          spanned('between', e(), self.pick(NOT), e(), e()),
+                          spanned('in', e(), self.pick(NOT), e(), e())])
+
+    def condition(self, table: str | None, row: str = '', atoms: Sequence[Tree] = (), extra: Sequence[Tree] = (),
+                  depth: int = 0) -> Tree:
         parts = [self.test(table, row, atoms, extra, depth) for _ in range(self.pick([1, 1, 2]))]
         out = parts[0]
         for part in parts[1:]:
-            out = (self.pick(['and', 'and', 'or']), out, part)
+            out = joined(self.pick(['and', 'and', 'or']), out, part)
         return out
 
     # ---- definitions
 
-    def definitions(self):
+    def definitions(self) -> str:
         if self.chance(0.3):
             return self.themed()
         out = []
         for i in range(self.pick([1, 2, 2, 3])):
-            columns = [('ID', 'INTEGER' if self.chance(0.8) else 'VARCHAR(3)', False, True)]
+            columns = [Column('ID', 'INTEGER' if self.chance(0.8) else 'VARCHAR(3)', False, True)]
             for j in range(self.pick([1, 2, 2, 3])):
-                columns.append((f'C{j}', 'INTEGER' if self.chance(0.7) else f'VARCHAR({self.pick([1, 3, 10])})', not self.chance(0.15), False))
+                of_type = 'INTEGER' if self.chance(0.7) else f'VARCHAR({self.pick([1, 3, 10])})'
+                columns.append(Column(f'C{j}', of_type, not self.chance(0.15), False))
             if self.chance(0.2):
                 self.rng.shuffle(columns)
             self.tables[f'T{i}'] = columns
-            words = ', '.join(f'{n} {t}{"" if null or key else " NOT NULL"}{" PRIMARY KEY" if key else ""}' for n, t, null, key in columns)
+            words = ', '.join(f'{n} {t}{"" if null or key else " NOT NULL"}{" PRIMARY KEY" if key else ""}'
+                              for n, t, null, key in columns)
             out.append(f'CREATE TABLE T{i} ({words})')
         for i in range(self.pick([1, 1, 2, 2, 3, 4])):
             out.append(self.assertion())
         for table in self.tables:
             for _ in range(self.pick([0, 1, 3, 4])):
-                out.append(self.insert(table, tidy=True)[0])
-        return ';\n'.join(out) + ';\n'
+                out.append(self.insert(table, tidy=True).own)
+        return ended(out)
 
-    def themed(self):
+    def themed(self) -> str:
         """Shifts, duties and accounts, under rules that write skew breaks."""
-        key = ('ID', 'INTEGER', False, True)
-        self.tables = {'T0': [key], 'T1': [key, ('C0', 'INTEGER', True, False), ('C1', 'INTEGER', True, False)],
-                       'T2': [key, ('C0', 'VARCHAR(3)', True, False), ('C1', 'INTEGER', True, False)]}
+        key, last = Column('ID', 'INTEGER', False, True), Column('C1', 'INTEGER', True, False)
+        self.tables = {'T0': [key], 'T1': [key, Column('C0', 'INTEGER', True, False), last],
+                       'T2': [key, Column('C0', 'VARCHAR(3)', True, False), last]}
         rules = ['NOT EXISTS (SELECT * FROM T0 S WHERE NOT EXISTS (SELECT * FROM T1 D WHERE D.C0 = S.ID AND D.C1 = 1))',
                  'NOT EXISTS (SELECT C0 FROM T2 GROUP BY C0 HAVING SUM(C1) < 0)',
                  'NOT EXISTS (SELECT * FROM T0 S WHERE (SELECT COUNT(*) FROM T1 D WHERE D.C0 = S.ID) > 2)',
                  'NOT EXISTS (SELECT C0 FROM T1 GROUP BY C0 HAVING MIN(C1) > 1 OR COUNT(C1) > 3)',
-                 'NOT EXISTS (SELECT * FROM T1 A WHERE EXISTS (SELECT * FROM T1 B WHERE B.C0 = A.C0 AND B.ID <> A.ID AND B.C1 = A.C1))',
+                 'NOT EXISTS (SELECT * FROM T1 A WHERE EXISTS'
+                 ' (SELECT * FROM T1 B WHERE B.C0 = A.C0 AND B.ID <> A.ID AND B.C1 = A.C1))',
                  'NOT EXISTS (SELECT * FROM T1 D WHERE EXISTS (SELECT * FROM T2 A WHERE A.ID = D.C0 AND A.C1 < D.C1))',
                  '(SELECT SUM(C1) FROM T2) >= (SELECT COUNT(*) FROM T0)', '(SELECT SUM(C1) FROM T2) BETWEEN 3 AND 9',
                  '(SELECT COUNT(C1) FROM T1 WHERE C1 > 0) BETWEEN 2 AND 6',
                  '(SELECT MAX(C1) FROM T2 WHERE C0 IS NOT NULL) < 3']
-        out = ['CREATE TABLE T0 (ID INTEGER PRIMARY KEY)', 'CREATE TABLE T1 (ID INTEGER PRIMARY KEY, C0 INTEGER, C1 INTEGER)',
+        out = ['CREATE TABLE T0 (ID INTEGER PRIMARY KEY)',
+               'CREATE TABLE T1 (ID INTEGER PRIMARY KEY, C0 INTEGER, C1 INTEGER)',
                'CREATE TABLE T2 (ID INTEGER PRIMARY KEY, C0 VARCHAR(3), C1 INTEGER)']
         for rule in self.rng.sample(rules, self.pick([1, 2, 2, 3, 4])):
             out.append(self.named(rule, self.pick(['', ' INITIALLY DEFERRED', ' DEFERRABLE'])))
         out += [f'INSERT INTO T0 VALUES ({shift})' for shift in (1, 2)]
         for i in range(4):
             out.append(f'INSERT INTO T1 VALUES ({i}, {self.pick([1, 2]) if i > 1 else i + 1}, 1)')
-            out.append(f"INSERT INTO T2 VALUES ({i}, {self.pick(['NULL', chr(39) + 'A' + chr(39)])}, {self.pick([1, 2])})")
-        return ';\n'.join(out) + ';\n'
+            out.append(f"""INSERT INTO T2 VALUES ({i}, {self.pick(['NULL', "'A'"])}, {self.pick([1, 2])})""")
+        return ended(out)
 
-    def named(self, condition, attributes):
+    def named(self, condition: str, attributes: str) -> str:
         name = f'A{len(self.assertions)}'
         self.assertions.append(name)
         attributes = ' INITIALLY DEFERRED' if self.all_deferred else attributes
         return f'CREATE ASSERTION {name} CHECK ({condition}){attributes}'
 
-    def assertion(self):
+    def assertion(self) -> str:
         form = self.pick('RRGGS')
         table = self.pick(self.tables)
         if form == 'R':
             subqueries = [self.linked(table) for _ in range(self.pick([0, 1, 1, 2]))]
-            extra = [('exists', text) if test else ('compare', self.pick(COMPARES), ('query', text), self.constant('INTEGER')) for test, text in subqueries]
-            extra += [('not', e) for e in extra]
+            extra = [Tree('exists', (text,)) if test
+                     else signed('compare', self.pick(COMPARES), query(text), self.constant('INTEGER'))
+                     for test, text in subqueries]
+            extra += [joined('not', e) for e in extra]
             where = self.pick(extra) if extra and self.chance(0.6) else self.condition(table, 'R', (), extra)
             body = f'NOT EXISTS (SELECT * FROM {table} R WHERE {own(where)})'
         elif form == 'G':
-            group = self.pick(self.tables[table])[0]
-            atoms = [('query', self.function(table)) for _ in range(2)]
-            having = ('compare', self.pick(COMPARES), atoms[0], self.constant('INTEGER')) if self.chance(0.5) else self.condition(None, '', atoms)
-            where = f' WHERE {own(self.condition(table))}' if self.chance(0.4) else ''
-            body = f'NOT EXISTS (SELECT {group} FROM {table}{where} GROUP BY {group} HAVING {own(having)})'
+            group = self.pick(self.tables[table]).name
+            atoms = [query(self.function(table)) for _ in range(2)]
+            having = (signed('compare', self.pick(COMPARES), atoms[0], self.constant('INTEGER')) if self.chance(0.5)
+                      else self.condition(None, '', atoms))
+            filtered = f' WHERE {own(self.condition(table))}' if self.chance(0.4) else ''
+            body = f'NOT EXISTS (SELECT {group} FROM {table}{filtered} GROUP BY {group} HAVING {own(having)})'
         else:
-            atoms = [('query', f'(SELECT {self.function(t)} FROM {t}{self.pick(["", " WHERE " + own(self.condition(t))])})')
+            atoms = [query(f'(SELECT {self.function(t)} FROM {t}{self.pick(["", " WHERE " + own(self.condition(t))])})')
                      for t in [self.pick(self.tables), self.pick(self.tables)]]
-            body = own(self.condition(None, '', atoms) if self.chance(0.5) else ('compare', self.pick(COMPARES), atoms[0], self.pick([atoms[1], self.constant('INTEGER')])))
-        return self.named(body, self.pick(['', '', '', ' DEFERRABLE', ' INITIALLY DEFERRED', ' INITIALLY DEFERRED DEFERRABLE', ' NOT DEFERRABLE']))
+            body = own(self.condition(None, '', atoms) if self.chance(0.5)
+                       else signed('compare', self.pick(COMPARES), atoms[0],
+                                   self.pick([atoms[1], self.constant('INTEGER')])))
+        return self.named(body, self.pick(['', '', '', ' DEFERRABLE', ' INITIALLY DEFERRED',
+                                           ' INITIALLY DEFERRED DEFERRABLE', ' NOT DEFERRABLE']))
 
-    def function(self, table, row=''):
+    def function(self, table: str, row: str = '') -> str:
         word = self.pick(['COUNT(*)', 'COUNT', 'SUM', 'SUM', 'MIN', 'MAX'])
         column = self.column(table, 'INTEGER', row)
-        return 'COUNT(*)' if word == 'COUNT(*)' or column[0] != 'column' else f'{word}({own(column)})'
+        return 'COUNT(*)' if word == 'COUNT(*)' or column.kind != 'column' else f'{word}({own(column)})'
 
-    def linked(self, table):
+    def linked(self, table: str) -> tuple[bool, str]:
         """Whether it is an EXISTS, and a subquery that is linked to the row R."""
-        key = next(c for c in self.tables[table] if c[3])[0]
+        key = self.key(table).name
         child = self.pick(self.tables)
-        pairs = [(c[0], r[0]) for c in self.tables[child] for r in self.tables[table] if (c[1] == 'INTEGER') == (r[1] == 'INTEGER')]
+        pairs = [(c.name, r.name) for c in self.tables[child] for r in self.tables[table] if c.kind == r.kind]
         by_key = [pair for pair in pairs if pair[1] == key]
         if not by_key:
             return True, f'(SELECT * FROM {table} W WHERE W.{key} = R.{key})'
@@ -191,43 +297,47 @@ class Maker:
         if self.chance(0.6):
             parts.append(own(self.test(child, "W", (), (), 1)))
         source = f'FROM {child} W WHERE {" AND ".join(parts)}'
-        return (True, f'(SELECT * {source})') if self.chance(0.5) else (False, f'(SELECT {self.function(child, "W")} {source})')
+        if self.chance(0.5):
+            return True, f'(SELECT * {source})'
+        return False, f'(SELECT {self.function(child, "W")} {source})'
 
-    # ---- statements: each for skewguard and for PostgreSQL
+    # ---- statements
 
-    def insert(self, table, tidy=False):
+    def insert(self, table: str, tidy: bool = False) -> Statement:
         values = []
-        for name, kind, null, key in self.tables[table]:
-            value = self.constant('INTEGER' if kind == 'INTEGER' else 'TEXT', 0 if (tidy and not null) or key else 0.15)
-            if tidy and kind != 'INTEGER':
-                value = ('text', self.pick('AB'))
-            elif tidy or key and self.chance(0.9):
-                value = ('number', self.pick(range(9))) if kind == 'INTEGER' else ('text', self.pick('ABab'))
+        for column in self.tables[table]:
+            is_given = tidy and not column.takes_null or column.is_key
+            value = self.constant(column.kind, 0 if is_given else 0.15)
+            if tidy and column.kind == 'TEXT':
+                value = Tree('text', (self.pick('AB'),))
+            elif tidy or column.is_key and self.chance(0.9):
+                value = number(self.pick(range(9))) if column.kind == 'INTEGER' else Tree('text', (self.pick('ABab'),))
             values.append(value)
-        return (f'INSERT INTO {table} VALUES ({", ".join(map(own, values))})', f'INSERT INTO "{table}" VALUES ({", ".join(map(theirs, values))})')
+        return Statement(f'INSERT INTO {table} VALUES ({", ".join(map(own, values))})',
+                         f'INSERT INTO "{table}" VALUES ({", ".join(map(theirs, values))})')
 
-    def where(self, table):
+    def where(self, table: str) -> Statement:
         if self.chance(0.15):
-            return '', ''
-        key = next(c for c in self.tables[table] if c[3])
-        by_key = ('compare', '=', ('column', '', key[0]), self.constant('INTEGER' if key[1] == 'INTEGER' else 'TEXT'))
+            return Statement('', '')
+        key = self.key(table)
+        by_key = signed('compare', '=', Tree('column', ('', key.name)), self.constant(key.kind))
         tree = by_key if self.chance(0.6) else self.condition(table)
-        return f' WHERE {own(tree)}', f' WHERE {theirs(tree)}'
+        return Statement(f' WHERE {own(tree)}', f' WHERE {theirs(tree)}')
 
-    def update(self, table):
-        columns = [c for c in self.tables[table] if not c[3] or self.chance(0.03)]
+    def update(self, table: str) -> Statement:
+        columns = [column for column in self.tables[table] if not column.is_key or self.chance(0.03)]
         if not columns:
             return self.insert(table)
         ours, others = [], []
-        for name, kind, null, key in self.rng.sample(columns, min(len(columns), self.pick([1, 1, 2]))):
-            kind = 'INTEGER' if kind == 'INTEGER' else 'TEXT'
-            value = ('null',) if self.chance(0.1) else self.expression(table, kind)
-            ours.append(f'{name} = {own(value)}')
-            others.append(f'"{name}" = {theirs(value)}')
+        for column in self.rng.sample(columns, min(len(columns), self.pick([1, 1, 2]))):
+            value = NULL if self.chance(0.1) else self.expression(table, column.kind)
+            ours.append(f'{column.name} = {own(value)}')
+            others.append(f'"{column.name}" = {theirs(value)}')
         mine, yours = self.where(table)
-        return f'UPDATE {table} SET {", ".join(ours)}{mine}', f'UPDATE "{table}" SET {", ".join(others)}{yours}'
+        return Statement(f'UPDATE {table} SET {", ".join(ours)}{mine}',
+                         f'UPDATE "{table}" SET {", ".join(others)}{yours}')
 
-    def statement(self):
+    def statement(self) -> Statement:
         table = self.pick(self.tables)
         mine, yours = self.where(table)
         roll = self.rng.random()
@@ -236,92 +346,102 @@ class Maker:
         if roll < 0.55:
             return self.update(table)
         if roll < 0.68:
-            return f'DELETE FROM {table}{mine}', f'DELETE FROM "{table}"{yours}'
+            return Statement(f'DELETE FROM {table}{mine}', f'DELETE FROM "{table}"{yours}')
         if roll < 0.8:
-            key = next(c for c in self.tables[table] if c[3])[0]
-            return f'SELECT * FROM {table}{mine}', f'SELECT * FROM "{table}"{yours} ORDER BY "{key}"'
+            by_key = f'ORDER BY "{self.key(table).name}"'
+            return Statement(f'SELECT * FROM {table}{mine}', f'SELECT * FROM "{table}"{yours} {by_key}')
         if roll < 0.9 and self.assertions:
             names = None if self.chance(0.4) else [self.pick(self.assertions) for _ in range(self.pick([1, 1, 2]))]
             mode = self.pick(['DEFERRED', 'IMMEDIATE'])
-            return (f'SET CONSTRAINTS {", ".join(names) if names else "ALL"} {mode}',
-                    'SET CONSTRAINTS ' + (', '.join(f'"{n}"' for n in names) if names else 'ALL') + f' {mode}')
+            quoted = ', '.join(f'"{name}"' for name in names) if names else 'ALL'
+            return Statement(f'SET CONSTRAINTS {", ".join(names) if names else "ALL"} {mode}',
+                             f'SET CONSTRAINTS {quoted} {mode}')
         name = self.pick(self.assertions)
-        return f'VERDICT {name}', f"SELECT verdict FROM skewguard_verdicts WHERE rule = '{name}'"
+        return Statement(f'VERDICT {name}', f"SELECT verdict FROM skewguard_verdicts WHERE rule = '{name}'")
 
-    def script(self):
-        """Events (session, of skewguard, of PostgreSQL), each transaction begun before its statements."""
-        names, open_, out = ['A', 'B', 'C', 'D'][:self.sessions], {}, []
+    def script(self) -> list[Event]:
+        """Events, each transaction begun before its statements."""
+        names = ['A', 'B', 'C', 'D'][:self.sessions]
+        open_: dict[str, int] = {}
+        out = []
         for _ in range(self.pick([10, 20, 30])):
             session = self.pick(names)
             if session not in open_:
                 open_[session] = self.pick([1, 2, 3, 5, 8])
-                out.append((session, 'BEGIN', 'BEGIN'))
+                out.append(Event(session, 'BEGIN', 'BEGIN'))
             elif open_[session] == 0 or self.chance(0.05):
                 del open_[session]
                 word = 'ROLLBACK' if self.chance(0.1) else 'COMMIT'
-                out.append((session, word, word))
+                out.append(Event(session, word, word))
             else:
                 open_[session] -= 1
-                out.append((session, *self.statement()))
-        return out + [(session, 'COMMIT', 'COMMIT') for session in open_]
+                out.append(Event(session, *self.statement()))
+        return out + [Event(session, 'COMMIT', 'COMMIT') for session in open_]
 
 
-def own(tree):
+def own(tree: Tree) -> str:
     """A tree as skewguard reads it."""
-    return printed(tree, lambda column: f'{column[1]}.{column[2]}' if column[1] else column[2], '')
+    return printed(tree, lambda row, name: f'{row}.{name}' if row else name, '')
 
 
-def theirs(tree):
+def theirs(tree: Tree) -> str:
     """A tree as PostgreSQL reads it: arithmetic is of type numeric, and texts compare by bytes."""
-    return printed(tree, lambda column: f'"{column[2]}"', '::numeric')
+    return printed(tree, lambda row, name: f'"{name}"', '::numeric')
 
 
-def printed(tree, column, cast):
-    word = tree[0]
-    part = lambda t: printed(t, column, cast)
-    number = lambda t: part(t) if t[0] in ('sum', 'product', 'negation') else part(t) + cast
-    if word == 'null':
+def printed(tree: Tree, column: Callable[[str, str], str], cast: str) -> str:
+    """A tree, with what a language makes of the row and the name of a column, and of a number."""
+    kind, words, parts = tree
+    if kind == 'null':
         return 'NULL'
-    if word == 'number':
-        return f'({tree[1]})' if tree[1] < 0 else str(tree[1])
-    if word == 'text':
-        quoted = "'" + tree[1].replace("'", "''") + "'"
-        return f'({quoted} COLLATE "C")' if cast else quoted
-    if word == 'column':
-        return column(tree)
-    if word in ('query', 'exists'):
-        return tree[1] if word == 'query' else f'EXISTS {tree[1]}'
-    if word == 'sum':
-        return f'({number(tree[2])} {tree[1]} {number(tree[3])})'
-    if word == 'product':
-        return f'({number(tree[1])} * {number(tree[2])})'
-    if word == 'negation':
-        return f'(- {number(tree[1])})'
-    if word == 'compare':
-        return f'{part(tree[2])} {tree[1]} {part(tree[3])}'
-    if word == 'null test':
-        return f'{part(tree[1])} IS {tree[2]}NULL'
-    if word == 'between':
-        return f'{part(tree[1])} {tree[2]}BETWEEN {part(tree[3])} AND {part(tree[4])}'
-    if word == 'in':
-        return f'{part(tree[1])} {tree[2]}IN ({part(tree[3])}, {part(tree[4])})'
-    if word == 'not':
-        return f'(NOT ({part(tree[1])}))'
-    if word == 'is':
-        return f'(({part(tree[1])}) IS {tree[2]}{tree[3]})'
-    return f'({part(tree[1])} {word.upper()} {part(tree[2])})'
+    if kind == 'number':
+        return f'({words[0]})' if int(words[0]) < 0 else words[0]
+    if kind == 'text':
+        return f'({literal(words[0])} COLLATE "C")' if cast else literal(words[0])
+    if kind == 'column':
+        return column(*words)
+    if kind in ('query', 'exists'):
+        return words[0] if kind == 'query' else f'EXISTS {words[0]}'
+    one, *others = (printed(part, column, cast) for part in parts)
+    if kind in ('sum', 'product', 'negation'):
+        one, *others = (text if part.kind in ('sum', 'product', 'negation') else text + cast
+                        for text, part in zip((one, *others), parts))
+    if kind == 'negation':
+        return f'(- {one})'
+    if kind == 'not':
+        return f'(NOT ({one}))'
+    if kind == 'is':
+        return f'(({one}) IS {words[0]}{words[1]})'
+    if kind == 'null test':
+        return f'{one} IS {words[0]}NULL'
+    other = others[0]
+    if kind == 'sum':
+        return f'({one} {words[0]} {other})'
+    if kind == 'product':
+        return f'({one} * {other})'
+    if kind == 'compare':
+        return f'{one} {words[0]} {other}'
+    if kind == 'between':
+        return f'{one} {words[0]}BETWEEN {other} AND {others[1]}'
+    if kind == 'in':
+        return f'{one} {words[0]}IN ({other}, {others[1]})'
+    return f'({one} {kind.upper()} {other})'
 
 
 # ---- what an event is answered, in words that both sides have
 
 # Where a row has a NULL and a number that may not be there, skewguard names the first column and PostgreSQL the NULL:
 # both are one answer here.
-REFUSED = {'3': 'name', '6': 'value', '7': 'key taken', '8': 'key', '9': 'value', '11': 'not deferrable', '12': 'serialization', '13': 'serialization'}
-STATES = {'23502': 'value', '23505': 'key taken', '0A000': 'key', '23514': 'value', '22003': 'value', '42704': 'not deferrable',
-          '40001': 'serialization', '40P01': 'serialization'}
+REFUSED = {'3': 'name', '6': 'value', '7': 'key taken', '8': 'key', '9': 'value', '11': 'not deferrable',
+           '12': 'serialization', '13': 'serialization'}
+STATES = {'23502': 'value', '23505': 'key taken', '0A000': 'key', '23514': 'value', '22003': 'value',
+          '42704': 'not deferrable', '40001': 'serialization', '40P01': 'serialization'}
+# A word for what became of an event, and what there is to it: why it was refused, a number of rows, the rows, ..
+Outcome = tuple[typing.Union[None, int, str], ...]
+SERIALIZATION: Outcome = ('refused', 'serialization')
 
 
-def answer_of_program(lines):
+def answer_of_program(lines: Sequence[str]) -> Outcome:
     """The answer in the lines of an event."""
     words = lines[0].split(': ', 1)[1]
     if words.startswith('REFUSED '):
@@ -338,34 +458,31 @@ def answer_of_program(lines):
     return 'done', words.split()[0]
 
 
-def answer_of_error(error):
+def answer_of_error(error: psycopg2.Error) -> Outcome:
     if error.pgcode == '23000':
         return 'violated', error.diag.constraint_name, error.diag.message_detail
-    return 'refused', STATES.get(error.pgcode, f'{error.pgcode} {error}')
-
-
-def written(value):
-    return 'NULL' if value is None else str(value) if isinstance(value, int) else "'" + value.replace("'", "''") + "'"
+    return 'refused', STATES.get(error.pgcode or '', f'{error.pgcode} {error}')
 
 
 class Session(Player):
     """Notes what its events are answered. One that is alone waits for no other, and plays them at once, without a
     thread."""
 
-    def __init__(self, server, schema, alone):
+    def __init__(self, server: ServerOfCases, schema: str, alone: bool) -> None:
         super().__init__(server, schema)
         self.pid = self.connection.info.backend_pid
-        self.answers, self.is_open, self.lost, self.alone = [], False, False, alone
+        self.answers: list[Outcome] = []
+        self.is_open, self.lost, self.alone = False, False, alone
         if not alone:
             self.start()
 
-    def give(self, event):
-        if self.alone:
+    def give(self, event: str | None) -> None:
+        if self.alone and event is not None:
             self.play(event)
         else:
             super().give(event)
 
-    def end(self, watch):
+    def end(self, watch: Cursor) -> None:
         """Ends the session, also where it waits for another one."""
         watch.execute('SELECT pg_terminate_backend(%s, 10000)', (self.pid,))
         self.work.put(None)
@@ -373,27 +490,27 @@ class Session(Player):
             self.join(10)
         self.connection.close()
 
-    def run(self):
+    def run(self) -> None:
         # (where the case is over, its sessions were ended)
         with contextlib.suppress(psycopg2.Error):
             super().run()
 
-    def play(self, event):
+    def play(self, event: str) -> None:
         self.answers.append(self.played(event))
 
-    def played(self, event):
+    def played(self, event: str) -> Outcome:
         try:
             return self.answer(event)
         except psycopg2.Error as error:
             answer = answer_of_error(error)
-            if event in ('BEGIN', 'COMMIT', 'ROLLBACK') or answer == ('refused', 'serialization'):
+            if event in ('BEGIN', 'COMMIT', 'ROLLBACK') or answer == SERIALIZATION:
                 self.cursor.execute('ROLLBACK')
                 self.is_open, self.lost = False, event != 'COMMIT'
             else:
                 self.cursor.execute('ROLLBACK TO SAVEPOINT statement')
             return answer
 
-    def answer(self, event):
+    def answer(self, event: str) -> Outcome:
         if event == 'BEGIN':
             self.lost = False
             self.cursor.execute('BEGIN ISOLATION LEVEL SERIALIZABLE; SELECT 1')
@@ -413,32 +530,35 @@ class Session(Player):
         self.cursor.execute('RELEASE SAVEPOINT statement')
         return answer
 
-    def told(self, event):
+    def told(self, event: str) -> Outcome:
         if event.startswith('SELECT verdict'):
-            return 'verdict', {True: 'TRUE', False: 'FALSE', None: 'UNKNOWN'}[self.cursor.fetchone()[0]]
+            ((verdict,),) = self.cursor.fetchall()
+            return 'verdict', {True: 'TRUE', False: 'FALSE', None: 'UNKNOWN'}[verdict]
         if event.startswith('SELECT'):
-            return ('rows', *(', '.join(map(written, row)) for row in self.cursor.fetchall()))
+            return ('rows', *(', '.join(map(literal, row)) for row in self.cursor.fetchall()))
         if event.startswith('SET'):
             return 'done', 'SET'
         return 'changed', self.cursor.rowcount
 
 
 class Differs(Exception):
-    pass
+    """What the two answer differently."""
 
 
 class Cases:
-    def __init__(self, program, server):
+    """Plays cases on both, and counts what it meets."""
+
+    def __init__(self, program: str, server: ServerOfCases) -> None:
         self.program, self.server = program, server
         self.watch = server.connect('-c default_transaction_isolation=read\\ committed')
         self.cursor = self.watch.cursor()
-        self.counts = {}
+        self.counts: collections.Counter[str] = collections.Counter()
         self.schemas = 0
 
-    def count(self, what):
-        self.counts[what] = self.counts.get(what, 0) + 1
+    def count(self, what: str) -> None:
+        self.counts[what] += 1
 
-    def replayed(self, defs, events):
+    def replayed(self, defs: str, events: Sequence[Event]) -> list[Outcome] | None:
         """The answers of the program to a script's events, or None where the definitions are refused."""
         ran = replay(self.program, defs.encode(), ''.join(loads.script(events)).encode())
         if ran.status != 0:
@@ -446,31 +566,33 @@ class Cases:
         answered = replies(in_characters(ran.output))
         return [answer_of_program(answered[at]) for at in range(len(events))]
 
-    def printed(self, defs):
+    def printed(self, defs: str) -> Answer:
+        """What the program makes of definitions for PostgreSQL."""
         return run_on([self.program, 'postgresql'], defs.encode())
 
-    def load(self, defs):
-        printed_ = self.printed(defs)
-        if printed_.status != 0:
-            raise Differs(f'postgresql: status {printed_.status}: {printed_.error}')
+    def load(self, defs: str) -> str:
+        """The name of a new schema with the tables and rules of definitions."""
+        made = self.printed(defs)
+        if made.status != 0:
+            raise Differs(f'postgresql: status {made.status}: {made.error}')
         self.schemas += 1
         schema = f'case_{self.schemas}'
         try:
             self.cursor.execute(f'CREATE SCHEMA {schema}')
             self.cursor.execute(f'SET search_path = {schema}')
-            self.cursor.execute(in_characters(printed_.output))
+            self.cursor.execute(in_characters(made.output))
         except psycopg2.Error as error:
-            raise Differs(f'the SQL is not loaded: {error}\n{printed_.output}')
+            raise Differs(f'the SQL is not loaded: {error}\n{made.output}')
         return schema
 
-    def case(self, maker):
+    def case(self, maker: Maker) -> bool:
         """One case. False where its definitions are refused."""
         defs, script = maker.definitions(), maker.script()
         wanted = self.replayed(defs, script)
         if wanted is None:
             return False
         schema = self.load(defs)
-        sessions = {}
+        sessions: dict[str, Session] = {}
         try:
             names = sorted({session for session, _, _ in script})
             sessions = {name: Session(self.server, schema, len(names) == 1) for name in names}
@@ -484,8 +606,9 @@ class Cases:
             self.cursor.execute(f'DROP SCHEMA {schema} CASCADE')
         return True
 
-    def play(self, script, wanted, sessions):
-        places = {name: [] for name in sessions}
+    def play(self, script: Sequence[Event], wanted: Sequence[Outcome], sessions: Mapping[str, Session]) -> None:
+        """Gives each event to its session, and compares the answers as they come."""
+        places: dict[str, list[int]] = {name: [] for name in sessions}
         compares, checked = True, {name: 0 for name in sessions}
         for place, (name, _, event) in enumerate(script):
             session = sessions[name]
@@ -501,7 +624,7 @@ class Cases:
             time.sleep(0.001)
         self.compare(script, wanted, sessions, places, checked, compares)
 
-    def settle(self, sessions):
+    def settle(self, sessions: Mapping[str, Session]) -> None:
         """Waits until each session is idle or waits for another one."""
         begun = time.time()
         while True:
@@ -517,7 +640,8 @@ class Cases:
                 raise Differs('a session does not come to an end')
             time.sleep(0.0005)
 
-    def compare(self, script, wanted, sessions, places, checked, compares):
+    def compare(self, script: Sequence[Event], wanted: Sequence[Outcome], sessions: Mapping[str, Session],
+                places: Mapping[str, Sequence[int]], checked: dict[str, int], compares: bool) -> bool:
         """Compares the answers that have come in since, in the order of the script; whether to go on comparing."""
         new = []
         for name, session in sessions.items():
@@ -525,28 +649,28 @@ class Cases:
                 new.append((places[name][checked[name]], session.answers[checked[name]]))
                 checked[name] += 1
         for place, answer in sorted(new):
-            name, mine, _ = script[place]
-            if mine == 'COMMIT' and answer[0] == 'done':
+            if script[place].own == 'COMMIT' and answer[0] == 'done':
                 self.check_rules()
             if compares:
                 compares = self.same(script[place], answer, wanted[place], len(sessions) > 1)
         return compares
 
-    def check_rules(self):
+    def check_rules(self) -> None:
+        """No rule is false in what is committed."""
         self.count('commits on PostgreSQL')
         self.cursor.execute('SELECT rule, root FROM skewguard_verdicts WHERE NOT verdict')
         broken = self.cursor.fetchall()
         if broken:
             raise Differs(f'a committed state breaks a rule: {broken}')
 
-    def same(self, event, answer, wanted, several):
+    def same(self, event: Event, answer: Outcome, wanted: Outcome, several: bool) -> bool:
+        """Whether to go on comparing behind an answer that is the same, or may be another one."""
         self.count('answers compared')
         if wanted[0] == 'violated':
-            self.count('refused at COMMIT for a rule' if event[1] == 'COMMIT' else 'refused for a rule')
-        lost = answer == ('refused', 'serialization') or answer[0] == 'lost'
-        if event[1] == 'COMMIT' and (lost or wanted == ('refused', 'serialization')):
-            both = lost and wanted == ('refused', 'serialization')
-            if both:
+            self.count('refused at COMMIT for a rule' if event.own == 'COMMIT' else 'refused for a rule')
+        lost = answer == SERIALIZATION or answer[0] == 'lost'
+        if event.own == 'COMMIT' and (lost or wanted == SERIALIZATION):
+            if lost and wanted == SERIALIZATION:
                 self.count('refused with 40001 by both')
                 return True
             if lost and wanted[0] != 'done':
@@ -562,11 +686,13 @@ class Cases:
             self.count('put in by PostgreSQL under a key that another session has taken out since')
             return False
         if answer != wanted:
-            raise Differs(f'{event[0]}: {event[1]};\n  skewguard  {wanted}\n  PostgreSQL {answer}  ({event[2]})')
+            raise Differs(f'{event.session}: {event.own};\n'
+                          f'  skewguard  {wanted}\n  PostgreSQL {answer}  ({event.theirs})')
         return True
 
 
-def play_cases(player, cases, seed, most_sessions):
+def play_cases(player: Cases, cases: int, seed: int, most_sessions: int) -> bool:
+    """Whether all of so many cases are alike."""
     played = tried = 0
     while played < cases:
         rng = random.Random((seed << 32) + (most_sessions << 24) + tried)
@@ -577,7 +703,8 @@ def play_cases(player, cases, seed, most_sessions):
         except Differs as differs:
             print(f'case {tried - 1} of seed {seed}, {most_sessions} sessions at most: {differs}')
             return False
-    print(f'{cases} cases of {"one session" if most_sessions == 1 else "several sessions"}: alike ({tried} made, the others refused at their definitions)')
+    sessions_of_them = 'one session' if most_sessions == 1 else 'several sessions'
+    print(f'{cases} cases of {sessions_of_them}: alike ({tried} made, the others refused at their definitions)')
     for what, count in sorted(player.counts.items()):
         print(f'    {count} {what}')
     player.counts.clear()
@@ -630,53 +757,56 @@ CREATE TRIGGER hand AFTER INSERT OR UPDATE ON "SEAT" FOR EACH STATEMENT EXECUTE 
 '''
 
 # Tables of N rows: 5 duties a shift, 5 accounts an owner.
-COST_ROWS = [('DUTY', 'SELECT i, i / 5, 1 FROM generate_series(0, {n} - 1) AS i'), ('SHIFTS', 'SELECT i FROM generate_series(0, {n} / 5 - 1) AS i'),
-             ('ACCT', 'SELECT i, i / 5, 10 FROM generate_series(0, {n} - 1) AS i'), ('SEAT', 'SELECT i, 1 FROM generate_series(0, {n} - 1) AS i')]
+COST_ROWS = [('DUTY', 'SELECT i, i / 5, 1 FROM generate_series(0, {n} - 1) AS i'),
+             ('SHIFTS', 'SELECT i FROM generate_series(0, {n} / 5 - 1) AS i'),
+             ('ACCT', 'SELECT i, i / 5, 10 FROM generate_series(0, {n} - 1) AS i'),
+             ('SEAT', 'SELECT i, 1 FROM generate_series(0, {n} - 1) AS i')]
 
 COST_STATEMENTS = [('COVERED, by rows', 'DUTY', 'UPDATE "DUTY" SET "ONCALL" = 1 - "ONCALL" WHERE "ID" = {i} * 5'),
                    ('FUNDS, by groups', 'ACCT', 'UPDATE "ACCT" SET "BAL" = "BAL" + 1 WHERE "ID" = {i} * 5'),
                    ('SOLD, single', 'SEAT', 'UPDATE "SEAT" SET "TAKEN" = 1 - "TAKEN" WHERE "ID" = {i}')]
 
 
-def timed(cursor, statement):
+def timed(cursor: Cursor, statement: str) -> float:
+    """The seconds of a statement."""
     begun = time.perf_counter()
     cursor.execute(statement)
     return time.perf_counter() - begun
 
 
-def median(times):
-    return sorted(times)[len(times) // 2]
-
-
-def loaded(server, player, sql, name, n):
+def loaded(server: ServerOfCases, player: Cases, sql: str, name: str, n: int) -> tuple[Cursor, dict[str, float]]:
     """A connection to tables of n rows, and how long the INSERT of each took."""
     player.cursor.execute(f'CREATE SCHEMA {name}')
     cursor = server.connect(f'-c search_path={name}').cursor()
     cursor.execute(sql)
-    loads = {table: timed(cursor, f'INSERT INTO "{table}" {rows.format(n=n)}') for table, rows in COST_ROWS}
+    seconds = {table: timed(cursor, f'INSERT INTO "{table}" {rows.format(n=n)}') for table, rows in COST_ROWS}
     for table, _ in COST_ROWS:
         cursor.execute(f'VACUUM ANALYZE "{table}"')
-    return cursor, loads
+    return cursor, seconds
 
 
-def costs(server, player, statements=200):
-    """For each rule the median of an UPDATE of one row, a transaction each, the kinds in turns; and an INSERT of all."""
-    printed_ = {mode: player.printed(COST_DEFS % {'mode': mode}).output for mode in ('', ' INITIALLY DEFERRED')}
-    kinds = [('no rule', BARE), ('by hand', BY_HAND), ('printed', printed_['']), ('printed, deferred', printed_[' INITIALLY DEFERRED'])]
-    print('| rule | rows | statement | ' + ' | '.join(kind for kind, _ in kinds) + ' |\n|---|---|---|' + '---|' * len(kinds))
+def costs(server: ServerOfCases, player: Cases, statements: int = 200) -> None:
+    """For each rule the median of an UPDATE of one row, a transaction each, the kinds in turns; and an INSERT of
+    all."""
+    immediate, deferred = (player.printed(COST_DEFS % {'mode': mode}).output for mode in ('', ' INITIALLY DEFERRED'))
+    kinds = [('no rule', BARE), ('by hand', BY_HAND), ('printed', immediate), ('printed, deferred', deferred)]
+    names = ' | '.join(kind for kind, _ in kinds)
+    print(f'| rule | rows | statement | {names} |\n|---|---|---|' + '---|' * len(kinds))
     for n in (10 ** 4, 10 ** 5):
         ready = [loaded(server, player, sql, f'cost_{n}_{place}', n) for place, (_, sql) in enumerate(kinds)]
         for title, table, statement in COST_STATEMENTS:
-            times = [[] for _ in kinds]
+            times: list[list[float]] = [[] for _ in kinds]
             for i in range(50 + statements):
                 for (cursor, _), found in zip(ready, times):
                     found.append(timed(cursor, statement.format(i=i)))
-            print(f'| {title} | {n:,} | UPDATE of one row | ' + ' | '.join(f'{median(t[50:]) * 1e6:,.0f} us' for t in times) + ' |')
-            print(f'| {title} | {n:,} | INSERT of all rows | ' + ' | '.join(f'{loads[table] * 1e3:,.0f} ms' for _, loads in ready) + ' |', flush=True)
+            each = ' | '.join(f'{statistics.median_high(found[50:]) * 1e6:,.0f} us' for found in times)
+            print(f'| {title} | {n:,} | UPDATE of one row | {each} |')
+            each = ' | '.join(f'{seconds[table] * 1e3:,.0f} ms' for _, seconds in ready)
+            print(f'| {title} | {n:,} | INSERT of all rows | {each} |', flush=True)
 
 
-def main():
-    arguments = argparse.ArgumentParser(description=__doc__.splitlines()[0])
+def main() -> int:
+    arguments = parser_of(__doc__)
     arguments.add_argument('program')
     arguments.add_argument('--one', type=int, default=2000, help='cases of one session')
     arguments.add_argument('--many', type=int, default=300, help='cases of several sessions')

@@ -9,27 +9,75 @@ number of the first fault, or on each assertion's form, verdict and least bad ro
 many rows and groups there are, as a whole and for each set function, and for what its totals are maintained. The first
 that differs is printed. The stage is the reference's language: base, or any-link with parts over both rows.
 """
-import argparse
+from __future__ import annotations
+
 import json
 import random
 import sys
+import types
+import typing
+from collections.abc import Iterator, Sequence
 
+from harness.arguments import parser_of
 from harness.programs import run_on
 
 TRUTHS = {True: "TRUE", False: "FALSE", None: "UNKNOWN"}
 FORMS = {"R": "rows", "G": "groups", "S": "single"}
 
 
-def made(fuzz, seed, stage):
+# What the reference has: its parts of a definition, and the rows of its tables by their keys.
+Part = typing.Any
+State = typing.Any
+
+
+class Reference(typing.NamedTuple):
+    """The modules of the reference."""
+
+    engine: types.ModuleType
+    parser: types.ModuleType
+    meaning: types.ModuleType
+    refusals: types.ModuleType
+
+
+class Kept(typing.NamedTuple):
+    """A set function: its table, the column by which its totals are kept, for what, and how many rows and groups."""
+
+    function: str
+    table: str
+    by: str | None
+    upkeep: str
+    rows: int
+    groups: int
+
+
+class Checked(typing.NamedTuple):
+    """What is said of an assertion. As a whole it has so many rows and groups."""
+
+    name: str
+    form: str
+    verdict: str
+    root: str | None
+    deferrable: bool
+    initially_deferred: bool
+    whole: tuple[int, int]
+    kept: list[Kept]
+
+
+Said = tuple[typing.Optional[int], typing.Optional[list[Checked]]]  # the first fault's number, and the assertions
+
+
+def made(fuzz: types.ModuleType, seed: int, stage: str) -> bytes:
     """Random definitions: mostly of the language, a few of them with a text spoilt."""
     rng = random.Random(seed)
     defs = fuzz.Maker(rng, stage).defs()
     if rng.random() < 0.2:
-        return fuzz.mutated(rng, defs)
-    return defs.encode()
+        spoilt: bytes = fuzz.mutated(rng, defs)
+        return spoilt
+    text: str = defs
+    return text.encode()
 
 
-def counted(rows, column, is_link):
+def counted(rows: Sequence[Sequence[object]], column: int | None, is_link: bool) -> tuple[int, int]:
     """How many of the rows go to a group, and how many groups they make."""
     if column is None:
         return len(rows), min(len(rows), 1)
@@ -37,11 +85,12 @@ def counted(rows, column, is_link):
     return len(values), len(set(values))
 
 
-def name_of(function, column, table):
+def name_of(function: str, column: int | None, table: Part) -> str:
+    """A set function as the program shows it."""
     return "COUNT(*)" if column is None else f"{function}({table.columns[column][0]})"
 
 
-def columns_in(part):
+def columns_in(part: Part) -> Iterator[int]:
     """The columns that a condition looks at; those of the row around stand behind those of its own row."""
     if isinstance(part, tuple) and part and part[0] == "column":
         yield part[1]
@@ -50,47 +99,49 @@ def columns_in(part):
             yield from columns_in(inner)
 
 
-def linked_by(assertion, sub, state, M):
-    """For what the totals of a linked query are maintained, its column, and its rows and groups."""
+def linked_by(assertion: Part, sub: Part, state: State, M: types.ModuleType) -> Kept:
+    """How the totals of a linked query are maintained."""
     child = sub.child
     column = child.key if sub.link is None else sub.link
+    function, of = sub.aggregate or ("COUNT", None)
+    head = name_of(function, of, child), child.name, child.columns[column][0]
     if any(one >= len(child.columns) for one in columns_in(sub.parts)):
         beside = [len(M.linked_rows(sub, row, assertion.table, state)) for row in M.rows_of(state, assertion.table)]
-        return "none" if column == child.key else "rows", column, sum(beside), sum(1 for one in beside if one)
-    rows = [row for row in M.rows_of(state, child) if M.t_and([M.truth(part, tuple(row)) for part in sub.parts]) is True]
-    return "groups", column, *counted(rows, column, True)
+        upkeep = "none" if column == child.key else "rows"
+        return Kept(*head, upkeep, sum(beside), sum(1 for one in beside if one))
+    rows = [row for row in M.rows_of(state, child)
+        if M.t_and([M.truth(part, tuple(row)) for part in sub.parts]) is True]
+    return Kept(*head, "groups", *counted(rows, column, True))
 
 
-def kept_by(assertion, state, M):
-    """(function, table, by, upkeep, rows, groups) of each set function."""
+def kept_by(assertion: Part, state: State, M: types.ModuleType) -> Iterator[Kept]:
+    """How the totals of each set function are maintained."""
     if assertion.form == "R":
         for sub in assertion.subs:
-            function, of = sub.aggregate or ("COUNT", None)
-            upkeep, column, rows, groups = linked_by(assertion, sub, state, M)
-            yield name_of(function, of, sub.child), sub.child.name, sub.child.columns[column][0], upkeep, rows, groups
+            yield linked_by(assertion, sub, state, M)
     elif assertion.form == "G":
         table, group = assertion.table, assertion.group
         rows = M.kept(M.rows_of(state, table), assertion.where)
         for function, column in assertion.aggregates or [("COUNT", None)]:
             counts = counted(rows, group, False)
-            yield name_of(function, column, table), table.name, table.columns[group][0], "groups", *counts
+            yield Kept(name_of(function, column, table), table.name, table.columns[group][0], "groups", *counts)
     else:
         for table, where, (function, column) in assertion.subs:
             rows = M.kept(M.rows_of(state, table), where)
-            yield name_of(function, column, table), table.name, None, "groups", *counted(rows, None, False)
+            yield Kept(name_of(function, column, table), table.name, None, "groups", *counted(rows, None, False))
 
 
-def whole_of(assertion, kept, state, M):
+def whole_of(assertion: Part, kept: Sequence[Kept], state: State, M: types.ModuleType) -> tuple[int, int]:
     """The rows and groups of an assertion as a whole."""
     if assertion.form == "R":
         rows = len(M.rows_of(state, assertion.table))
         return rows, rows
     if assertion.form == "G":
-        return kept[0][4], kept[0][5]
-    return sum(one[4] for one in kept), 1
+        return kept[0].rows, kept[0].groups
+    return sum(one.rows for one in kept), 1
 
 
-def wanted(reference, defs, stage):
+def wanted(reference: Reference, defs: bytes, stage: str) -> Said:
     """The first fault's number, and what is wanted of each assertion."""
     engine, P, M, refusals = reference
     try:
@@ -101,45 +152,43 @@ def wanted(reference, defs, stage):
     for one in definitions.assertions:
         kept = list(kept_by(one, state, M))
         roots = M.bad_roots(one, state)
-        found.append({
-            "name": one.name, "form": FORMS[one.form], "verdict": TRUTHS[M.verdict(one, state)],
-            "root": refusals.value_text(roots[0]) if roots else None,
-            "deferrable": one.deferrable, "initially_deferred": one.deferred,
-            "whole": whole_of(one, kept, state, M), "kept": kept,
-        })
-    fault = 21 if any(one["root"] is not None for one in found) else None
+        root = refusals.value_text(roots[0]) if roots else None
+        found.append(Checked(one.name, FORMS[one.form], TRUTHS[M.verdict(one, state)], root, one.deferrable,
+            one.deferred, whole_of(one, kept, state, M), kept))
+    fault = 21 if any(one.root is not None for one in found) else None
     return fault, found
 
 
-def shown(text):
+def shown(text: str) -> Said:
     """The same of what the program prints."""
     said = json.loads(text)
     fault = said["faults"][0]["fault"] if said["faults"] else None
     if fault not in (None, 21):
         return fault, None
-    return fault, [{
-        "name": one["name"], "form": one["form"], "verdict": one["verdict"], "root": one["root"],
-        "deferrable": one["deferrable"], "initially_deferred": one["initially_deferred"],
-        "whole": (one["rows"], one["groups"]),
-        "kept": [tuple(k[word] for word in ("function", "table", "by", "upkeep", "rows", "groups")) for k in one["kept"]],
-    } for one in said["assertions"]]
+    found = []
+    for one in said["assertions"]:
+        kept = [Kept(*(each[word] for word in Kept._fields)) for each in one["kept"]]
+        found.append(Checked(one["name"], one["form"], one["verdict"], one["root"], one["deferrable"],
+            one["initially_deferred"], (one["rows"], one["groups"]), kept))
+    return fault, found
 
 
-def load(folder):
+def load(folder: str) -> tuple[types.ModuleType, Reference]:
+    """The reference's generator of definitions, and its modules."""
     sys.path.insert(0, folder)
     import fuzz
     from reference import engine, meaning, parser, refusals
-    return fuzz, (engine, parser, meaning, refusals)
+    return fuzz, Reference(engine, parser, meaning, refusals)
 
 
-def main():
-    words = argparse.ArgumentParser(description=__doc__, formatter_class=argparse.RawDescriptionHelpFormatter)
-    words.add_argument("reference")
-    words.add_argument("program")
-    words.add_argument("--cases", type=int, default=300)
-    words.add_argument("--seed", type=int, default=1)
-    words.add_argument("--stage", default="base", choices=["base", "any-link"])
-    words = words.parse_args()
+def main() -> int:
+    parser = parser_of(__doc__, whole=True)
+    parser.add_argument("reference")
+    parser.add_argument("program")
+    parser.add_argument("--cases", type=int, default=300)
+    parser.add_argument("--seed", type=int, default=1)
+    parser.add_argument("--stage", default="base", choices=["base", "any-link"])
+    words = parser.parse_args()
     fuzz, reference = load(words.reference)
     for seed in range(words.seed, words.seed + words.cases):
         defs = made(fuzz, seed, words.stage)

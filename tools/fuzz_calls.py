@@ -13,7 +13,8 @@ refused for its rules, may change nothing. In the end the events of each epoch a
 of that epoch and the rows that it began on: every line, and the closing part, have to be the same bytes. The last line
 says how many calls were made, and how many runs differ.
 """
-import argparse
+from __future__ import annotations
+
 import collections
 import ctypes
 import pathlib
@@ -21,9 +22,11 @@ import random
 import struct
 import sys
 import typing
+from collections.abc import Callable, Iterable, Sequence
 
+from harness.arguments import parser_of
 from harness.programs import replay
-from harness.texts import in_bytes
+from harness.texts import Value, in_bytes, literal
 
 (AGAIN, LINE, OPEN_SESSION, CLOSE_SESSION, PREPARE, FORGET, RUN, EXECUTE, BEGIN, BEGIN_READ_ONLY, COMMIT, ROLLBACK,
  REPORT, CHECKPOINT, RUN_ALL, TRANSACT, IMAGE) = range(17)
@@ -37,16 +40,17 @@ CALLS_IN_A_RUN = 500
 
 class Schema(typing.NamedTuple):
     """Tables with their names, assertions by their names in their order, and rows."""
+
     tables: str
-    names: tuple
-    rules: dict
+    names: tuple[str, ...]
+    rules: dict[str, str]
     rows: str
 
-    def text(self):
+    def text(self) -> str:
         return "\n".join([self.tables, *self.rules.values(), self.rows]) + "\n"
 
 
-def rule(name, condition, attributes=""):
+def rule(name: str, condition: str, attributes: str = "") -> str:
     return f"CREATE ASSERTION {name} CHECK ({condition}) {attributes};"
 
 
@@ -94,11 +98,11 @@ NO_NAMES = b"", b"A B", b"SELECT", b"\xff", b"1A", b"A" * 129
 EVENTS = {BEGIN: "BEGIN", BEGIN_READ_ONLY: "BEGIN READ ONLY", COMMIT: "COMMIT", ROLLBACK: "ROLLBACK"}
 
 
-def number(value):
+def number(value: int) -> bytes:
     return struct.pack("<q", value)
 
 
-def value_bytes(value):
+def value_bytes(value: Value) -> bytes:
     if value is None:
         return b"\0"
     if isinstance(value, int):
@@ -107,38 +111,35 @@ def value_bytes(value):
     return b"\2" + number(len(text)) + text
 
 
-def literal(value):
-    if value is None:
-        return "NULL"
-    return str(value) if isinstance(value, int) else "'" + value.replace("'", "''") + "'"
-
-
 class Reader:
     """The fields of a reply."""
 
-    def __init__(self, data):
+    def __init__(self, data: bytes) -> None:
         self.data, self.at = data, 0
 
-    def take(self, count):
+    def take(self, count: int) -> bytes:
         self.at += count
         if self.at > len(self.data):
             raise ValueError("the reply ends too early")
         return self.data[self.at - count:self.at]
 
-    def byte(self):
+    def byte(self) -> int:
         return self.take(1)[0]
 
-    def number(self):
-        return struct.unpack("<q", self.take(8))[0]
+    def number(self) -> int:
+        (found,) = struct.unpack("<q", self.take(8))
+        return int(found)
 
-    def text(self):
+    def text(self) -> str:
         return self.take(self.number()).decode("latin-1")
 
-    def value(self):
+    def value(self) -> Value:
         kind = self.byte()
-        return {0: lambda: None, 1: self.number, 2: self.text, 3: lambda: "ALL", 4: lambda: ""}[kind]()
+        by_kind: dict[int, Callable[[], Value]] = {
+            0: lambda: None, 1: self.number, 2: self.text, 3: lambda: "ALL", 4: lambda: ""}
+        return by_kind[kind]()
 
-    def done(self):
+    def done(self) -> None:
         if self.at != len(self.data):
             raise ValueError("the reply goes on behind its end")
 
@@ -146,13 +147,13 @@ class Reader:
 class Library:
     """A handle, with the calls that were made."""
 
-    def __init__(self, shared, definitions, limit):
+    def __init__(self, shared: ctypes.CDLL, definitions: str, limit: int) -> None:
         self.shared, self.handle = shared, ctypes.c_void_p()
         request = number(limit) + definitions.encode()
         if shared.skewguard_library_open(request, len(request), ctypes.byref(self.handle)):
             raise MemoryError
 
-    def call(self, operation, request, room=1 << 16):
+    def call(self, operation: int, request: bytes, room: int = 1 << 16) -> tuple[int, bytes]:
         buffer, length = ctypes.create_string_buffer(room), ctypes.c_size_t()
         status = self.shared.skewguard_library_call(
             self.handle, operation, request or b"\0", len(request), buffer, room, ctypes.byref(length))
@@ -160,7 +161,7 @@ class Library:
             return self.call(operation if operation == LINE else AGAIN, b"", length.value)
         return status, buffer.raw[:length.value]
 
-    def lines(self):
+    def lines(self) -> list[str]:
         """The lines of a call that made several events."""
         reader = Reader(self.call(LINE, b"")[1])
         if reader.byte() != SEVERAL:
@@ -169,7 +170,7 @@ class Library:
         reader.done()
         return lines
 
-    def line(self):
+    def line(self) -> str:
         status, reply = self.call(LINE, b"")
         reader = Reader(reply)
         kind, text = reader.byte(), reader.text()
@@ -178,16 +179,16 @@ class Library:
             raise ValueError(f"no line: {status} {reply!r}")
         return text
 
-    def close(self):
+    def close(self) -> None:
         self.shared.skewguard_library_close(self.handle)
 
 
-def rows_of(reader):
+def rows_of(reader: Reader) -> tuple[list[str], list[list[Value]]]:
     names = [reader.text() for _ in range(reader.number())]
     return names, [[reader.value() for _ in names] for _ in range(reader.number())]
 
 
-def told_by(reply):
+def told_by(reply: bytes) -> tuple[int, str]:
     """What the fields of a reply say, as the line of a report has it behind the session's name."""
     reader = Reader(reply)
     told = told_next(reader)
@@ -195,7 +196,7 @@ def told_by(reply):
     return told
 
 
-def told_next(reader):
+def told_next(reader: Reader) -> tuple[int, str]:
     """The same of the next of several; nothing where a call was not made."""
     kind = reader.byte()
     words = {BEGUN: "BEGIN", COMMITTED: "COMMIT", INSERTED: "INSERT", UPDATED: "UPDATE", DELETED: "DELETE"}
@@ -219,7 +220,7 @@ def told_next(reader):
     return kind, told
 
 
-def refusal_of(reader):
+def refusal_of(reader: Reader) -> str:
     which, state, name, root = reader.number(), reader.text() or "-", reader.text(), reader.value()
     by, *parties, _offset = (reader.number() for _ in range(5))
     line = reader.text()
@@ -237,36 +238,56 @@ def refusal_of(reader):
     return line.split(": ", 1)[1].rstrip("\n")
 
 
+class Epoch(typing.NamedTuple):
+    """The definitions that an epoch began on, its events, and the report that the library told of it."""
+
+    schema: Schema
+    script: list[str]
+    told: str
+
+
+class Step(typing.NamedTuple):
+    """A statement of a call of several: its text, its bytes, and the status where it can't be run."""
+
+    text: str
+    request: bytes
+    wrong: int | None
+
+
 class Run:
     """One database, the script of what was done, and the report that is expected of it."""
 
-    def __init__(self, shared, chance):
+    def __init__(self, shared: ctypes.CDLL, chance: random.Random) -> None:
         self.chance = chance
         self.schema = chance.choice(SCHEMAS)
         self.limit = chance.choice((1000000, 1000000, 12))
         self.library = Library(shared, self.schema.text(), self.limit)
-        self.epochs = []
-        self.sessions, self.closed, self.statements = {}, [0, 10**12], {}
-        self.script, self.lines, self.order = [], [], []
-        self.in_transaction = collections.defaultdict(bool)
+        self.epochs: list[Epoch] = []
+        self.sessions: dict[str, int] = {}
+        self.closed = [0, 10**12]
+        self.statements: dict[int, str] = {}
+        self.script: list[str] = []
+        self.lines: list[str] = []
+        self.order: list[str] = []
+        self.in_transaction: dict[str, bool] = collections.defaultdict(bool)
         self.calls = self.events = 0
 
-    def call(self, operation, request=b""):
+    def call(self, operation: int, request: bytes = b"") -> tuple[int, bytes]:
         self.calls += 1
         return self.library.call(operation, request)
 
-    def expect(self, holds, what):
+    def expect(self, holds: bool, what: str) -> None:
         if not holds:
             raise ValueError(what)
 
-    def misuse(self, operation, request, *statuses):
+    def misuse(self, operation: int, request: bytes, *statuses: int) -> None:
         """A call that may do nothing, and says why."""
         before = self.library.call(REPORT, b"")
         status, _ = self.call(operation, request)
         self.expect(status in statuses, f"status {status} of operation {operation}, wanted {statuses}")
         self.expect(self.library.call(REPORT, b"") == before, f"operation {operation} changed something")
 
-    def value(self, kind):
+    def value(self, kind: str) -> Value:
         """A value of the kind, or now and then of another."""
         if self.chance.random() < 0.03:
             kind = self.chance.choice("nto")
@@ -276,13 +297,13 @@ class Run:
             return None
         return self.chance.choice((0, 0, 1, 1, 2, 3, 4, 5, 6, 7, 8, 9, -1))
 
-    def session(self):
+    def session(self) -> tuple[str, int]:
         """A session, mostly one with an open transaction."""
         working = [name for name in self.sessions if self.in_transaction[name]]
         name = self.chance.choice(working if working and self.chance.random() < 0.95 else list(self.sessions))
         return name, self.sessions[name]
 
-    def event(self, name, text, operation, request):
+    def event(self, name: str, text: str, operation: int, request: bytes) -> None:
         """An event that the engine answers: its line goes into the report, and the event into the script."""
         status, reply = self.call(operation, request)
         self.expect(status in (DONE, REFUSED), f"status {status} of {text}")
@@ -290,7 +311,7 @@ class Run:
         self.expect((status == REFUSED) == (kind == REFUSAL), f"status {status} with kind {kind}")
         self.answered(name, text, kind, told, self.library.line())
 
-    def answered(self, name, text, kind, told, line):
+    def answered(self, name: str, text: str, kind: int, told: str, line: str) -> None:
         """An event was answered so, and this is its line."""
         if line.startswith("STATEMENT: "):
             raise ValueError(f"{text} was refused as a text: {line}")
@@ -303,14 +324,14 @@ class Run:
             self.in_transaction[name] = False
         self.note(name, text, line)
 
-    def note(self, name, text, line):
+    def note(self, name: str, text: str, line: str) -> None:
         if name not in self.order:
             self.order.append(name)
         self.script.append(f"{name}: {text};")
         self.lines.append(line)
         self.events += 1
 
-    def open_session(self):
+    def open_session(self) -> None:
         name = self.chance.choice(("ANN", "BOB", "CLEO", "DAN", "EVE"))
         written = self.chance.choice((name, name.lower())).encode()
         if name in self.sessions:
@@ -321,7 +342,7 @@ class Run:
         self.sessions[name] = reader.number()
         self.expect(self.sessions[name] not in self.closed, "a session's number was given again")
 
-    def close_session(self):
+    def close_session(self) -> None:
         name = self.chance.choice(list(self.sessions))
         session = self.sessions.pop(name)
         self.closed.append(session)
@@ -331,7 +352,7 @@ class Run:
             self.in_transaction[name] = False
             self.note(name, "ROLLBACK", f"{name}: ROLLBACK\n")
 
-    def serve_users(self):
+    def serve_users(self) -> None:
         """A session for each of more users than there are places, one after the other."""
         for user in range(USERS):
             status, reply = self.library.call(OPEN_SESSION, b"USER%d" % user)
@@ -342,7 +363,7 @@ class Run:
             self.closed.append(session)
         self.calls += 2 * USERS
 
-    def checkpoint(self, program):
+    def checkpoint(self, program: str) -> None:
         """Drops and creates rules. The rows that the next epoch begins on are asked for first, by a transaction."""
         dropped = self.chance.sample([*self.schema.rules, "NOWHERE"], self.chance.choice((0, 1)))
         created = self.chance.sample(list(RULES), self.chance.choice((0, 1, 1, 2)))
@@ -358,15 +379,15 @@ class Run:
         status, reply = self.call(CHECKPOINT, request)
         reader = Reader(reply)
         self.expect(status == DONE and reader.byte() == TEXT, f"status {status} of a checkpoint: {reply!r}")
-        self.epochs.append((self.schema, self.script, "".join(self.lines) + reader.text()))
+        self.epochs.append(Epoch(self.schema, self.script, "".join(self.lines) + reader.text()))
         self.schema = self.with_rules(dropped, created, rows)
         self.script, self.lines, self.order = [], [], []
 
-    def with_rules(self, dropped, created, rows):
+    def with_rules(self, dropped: Iterable[str], created: Iterable[str], rows: str) -> Schema:
         rules = {name: text for name, text in self.schema.rules.items() if name not in dropped}
         return self.schema._replace(rules=rules | {name: RULES[name] for name in created}, rows=rows)
 
-    def fault_of_rules(self, program, dropped, created, rows):
+    def fault_of_rules(self, program: str, dropped: Sequence[str], created: Sequence[str], rows: str) -> str | None:
         """What the rules are refused for, if they are: a name to drop, or what the program says of the definitions."""
         for name in dropped:
             if name not in self.schema.rules:
@@ -375,7 +396,7 @@ class Run:
         status, told = self.replay(program, left._replace(rows="\n".join([*new, rows])), [])
         return told.removeprefix("DEFS: REFUSED ").rstrip("\n") if status else None
 
-    def refuse_rules(self, request, fault):
+    def refuse_rules(self, request: bytes, fault: str) -> None:
         before = self.library.call(REPORT, b"")
         status, reply = self.call(CHECKPOINT, request)
         self.expect(status == REFUSED, f"status {status} of a checkpoint, wanted {fault}")
@@ -383,7 +404,7 @@ class Run:
         self.expect(kind == REFUSAL and told == f"REFUSED {fault}", f"{told!r}, wanted {fault}")
         self.expect(self.library.call(REPORT, b"") == before, "a checkpoint that was refused changed something")
 
-    def rows(self):
+    def rows(self) -> str:
         """The rows of each table, as INSERTs."""
         if not self.sessions:
             self.open_session()
@@ -393,13 +414,13 @@ class Run:
         self.event(name, "ROLLBACK", ROLLBACK, number(session))
         return "\n".join(written)
 
-    def rows_of_table(self, name, session, table):
+    def rows_of_table(self, name: str, session: int, table: str) -> list[str]:
         text = f"SELECT * FROM {table}"
         self.event(name, text, EXECUTE, number(session) + text.encode("latin-1"))
         rows = self.lines[-1].splitlines()[1:]
         return [f"INSERT INTO {table} VALUES ({row.strip()});" for row in rows]
 
-    def prepare(self):
+    def prepare(self) -> None:
         text = self.chance.choice(list(STATEMENTS))
         status, reply = self.call(PREPARE, text.encode("latin-1"))
         reader = Reader(reply)
@@ -408,7 +429,7 @@ class Run:
         self.expect(parameters == text.count("?") and statement not in self.statements, text)
         self.statements[statement] = text
 
-    def run_statement(self):
+    def run_statement(self) -> None:
         name, session = self.session()
         statement, text = self.chance.choice(list(self.statements.items()))
         values = [self.value(kind) for kind in STATEMENTS[text]]
@@ -421,8 +442,8 @@ class Run:
         written = "".join(piece + literal(value) for piece, value in zip(pieces, values)) + pieces[-1]
         self.event(name, written, RUN, request)
 
-    def step_of(self):
-        """A statement with values for a call of several: its text, its bytes, and the status where it can't be run."""
+    def step_of(self) -> Step:
+        """A statement with values, for a call of several."""
         statement, text = self.chance.choice(list(self.statements.items()))
         values = [self.value(kind) for kind in STATEMENTS[text]]
         pieces = text.split("?")
@@ -431,19 +452,20 @@ class Run:
         wrong = BAD_VALUE if None in values[int(may_be_null):] else None
         pick = self.chance.random()
         if pick < 0.02:
-            return written, number(10**9) + number(0), NO_STATEMENT
+            return Step(written, number(10**9) + number(0), NO_STATEMENT)
         if pick < 0.04:
-            return written, number(statement) + number(len(values) + 1) + b"\0" * (len(values) + 1), WRONG_COUNT
-        return written, number(statement) + number(len(values)) + b"".join(map(value_bytes, values)), wrong
+            request = number(statement) + number(len(values) + 1) + b"\0" * (len(values) + 1)
+            return Step(written, request, WRONG_COUNT)
+        return Step(written, number(statement) + number(len(values)) + b"".join(map(value_bytes, values)), wrong)
 
-    def several(self):
+    def several(self) -> None:
         """Statements in one call, or a whole transaction."""
         name, session = self.session()
         steps = [self.step_of() for _ in range(self.chance.randrange(5))]
-        request = number(session) + number(len(steps)) + b"".join(step for _, step, _ in steps)
+        request = number(session) + number(len(steps)) + b"".join(step.request for step in steps)
         is_whole = self.chance.random() < (0.1 if self.in_transaction[name] else 0.9)
         if is_whole:
-            steps = [("BEGIN", b"", None), *steps, ("COMMIT", b"", None)]
+            steps = [Step("BEGIN", b"", None), *steps, Step("COMMIT", b"", None)]
         status, reply = self.call(TRANSACT if is_whole else RUN_ALL, request)
         reader, lines, found = Reader(reply), self.library.lines(), DONE
         self.expect(reader.byte() == SEVERAL and reader.number() == len(lines), f"{reply!r} with {lines}")
@@ -470,7 +492,7 @@ class Run:
         self.expect(status == found and count == len(lines), f"status {status}, wanted {found}; {count} of {lines}")
         self.expect(self.library.call(AGAIN, b"") == (status, reply), "the replies are others when they come again")
 
-    def execute(self):
+    def execute(self) -> None:
         name, session = self.session()
         text = self.chance.choice(list(STATEMENTS))
         for kind in STATEMENTS[text]:
@@ -480,7 +502,7 @@ class Run:
             text = text.replace("?", literal(value), 1)
         self.event(name, text, EXECUTE, number(session) + text.encode("latin-1"))
 
-    def bound(self):
+    def bound(self) -> None:
         name, session = self.chance.choice(list(self.sessions.items()))
         if self.in_transaction[name]:
             operation = self.chance.choices((COMMIT, ROLLBACK, BEGIN), (12, 2, 1))[0]
@@ -491,14 +513,14 @@ class Run:
             return self.event(name, text, EXECUTE, number(session) + text.encode("latin-1"))
         self.event(name, EVENTS[operation], operation, number(session))
 
-    def foul(self):
+    def foul(self) -> None:
         """What no caller should do."""
         chance = self.chance
         gone = number(chance.choice(self.closed))
         live = number(next(iter(self.sessions.values()), 0))
         noise = bytes(chance.randrange(256) for _ in range(chance.randrange(40)))
         status = NO_SESSION
-        kinds = [
+        kinds: list[Callable[[], None]] = [
             lambda: self.misuse(chance.choice((BEGIN, BEGIN_READ_ONLY, COMMIT, ROLLBACK, CLOSE_SESSION)), gone, status),
             lambda: self.misuse(EXECUTE, gone + b"BEGIN", status),
             lambda: self.misuse(FORGET, number(10**9), NO_STATEMENT),
@@ -529,12 +551,12 @@ class Run:
                 kinds.append(lambda: self.misuse(RUN, head + number(count - 1) + chance.choice((most, odd)), BAD_VALUE))
         chance.choice(kinds)()
 
-    def forget(self):
+    def forget(self) -> None:
         statement = self.chance.choice(list(self.statements))
         del self.statements[statement]
         self.expect(self.call(FORGET, number(statement))[0] == DONE, "a statement was not forgotten")
 
-    def step(self, program):
+    def step(self, program: str) -> None:
         pick = self.chance.random()
         if pick < 0.001:
             return self.serve_users()
@@ -556,29 +578,29 @@ class Run:
             return self.several()
         return self.run_statement() if pick < 0.8 else self.execute()
 
-    def report(self):
+    def report(self) -> str:
         """What the library told, as a whole report."""
         left = "".join(f"{name}: ROLLBACK AT END\n" for name in self.order if self.in_transaction[name])
         reader = Reader(self.call(REPORT)[1])
         self.expect(reader.byte() == TEXT, "no report")
         return "".join(self.lines) + left + reader.text()
 
-    def replay(self, program, schema, script):
+    def replay(self, program: str, schema: Schema, script: Sequence[str]) -> tuple[int, str]:
         """The status, and what was printed."""
         done = replay(program, schema.text(), "\n".join(script) + "\n", *self.limit_words())
         return done.status, done.output or done.error.splitlines(keepends=True)[0]
 
-    def compare(self, program):
+    def compare(self, program: str) -> None:
         """Replays each epoch."""
-        for schema, script, told in [*self.epochs, (self.schema, self.script, self.report())]:
+        for schema, script, told in [*self.epochs, Epoch(self.schema, self.script, self.report())]:
             _, replayed = self.replay(program, schema, script)
             self.expect(told == replayed, first_difference(told, replayed))
 
-    def limit_words(self):
+    def limit_words(self) -> list[str]:
         return ["--max-commits", str(self.limit)]
 
 
-def bind(path):
+def bind(path: str) -> ctypes.CDLL:
     shared = ctypes.CDLL(path)
     size, pointer = ctypes.c_size_t, ctypes.c_void_p
     shared.skewguard_library_open.argtypes = [ctypes.c_char_p, size, ctypes.POINTER(pointer)]
@@ -591,7 +613,7 @@ def bind(path):
     return shared
 
 
-def one_run(shared, program, seed):
+def one_run(shared: ctypes.CDLL, program: str, seed: int) -> tuple[Run, str | None]:
     """How many calls were made, and what differs."""
     run = Run(shared, random.Random(seed))
     try:
@@ -605,15 +627,15 @@ def one_run(shared, program, seed):
     return run, None
 
 
-def first_difference(told, replayed):
+def first_difference(told: str, replayed: str) -> str:
     for line, other in zip(told.splitlines(), replayed.splitlines()):
         if line != other:
             return f"library {line!r}, replay {other!r}"
     return f"{len(told)} bytes from the library, {len(replayed)} from replay"
 
 
-def main():
-    words = argparse.ArgumentParser(description=__doc__.splitlines()[0])
+def main() -> None:
+    words = parser_of(__doc__)
     words.add_argument("library", type=pathlib.Path)
     words.add_argument("program")
     words.add_argument("--calls", type=int, default=100000)
@@ -621,7 +643,7 @@ def main():
     given = words.parse_args()
     shared = bind(str(given.library.resolve()))
     calls = events = epochs = differs = seed = 0
-    answers = collections.Counter()
+    answers: collections.Counter[str] = collections.Counter()
     while calls < given.calls:
         run, fault = one_run(shared, given.program, given.seed * 10**6 + seed)
         seed, calls, epochs = seed + 1, calls + run.calls, epochs + len(run.epochs) + 1
