@@ -8,14 +8,11 @@ key after key, under the rule that no sum of a group is below zero. What a check
 The table that docs/PERFORMANCE.md holds is printed as it stands there. One process at a time runs.
 """
 
-import argparse
 import os
 import pathlib
 import shutil
-import subprocess
-import tempfile
 
-from replays import TOP, launched, least_memory, table
+from replays import TOP, Used, carry_out, launched, least_memory, parser_of, table, temporary_folder
 
 PROGRAM = """//! Commits of one row each, with a checkpoint after so many.
 #![tactic(auto)]
@@ -75,39 +72,41 @@ fn main(rt: HostRuntime) -> Result<(), Refusal> {{
 """
 
 
-def program(folder, rows, commits, every):
-    """The program with these numbers, built without proofs in a copy of the repository."""
-    for name in ("crates", "crates.txt", "HANDLES"):
-        if not (folder / name).exists():
-            copy = shutil.copytree if (TOP / name).is_dir() else shutil.copy
-            copy(TOP / name, folder / name, **({"ignore": shutil.ignore_patterns("out")} if name == "crates" else {}))
+def program(folder: pathlib.Path, rows: int, commits: int, every: int) -> str:
+    """The program with these numbers, proved and built in a copy of the repository."""
+    if not (folder / "crates").exists():
+        shutil.copytree(TOP / "crates", folder / "crates", ignore=shutil.ignore_patterns("out"))
+        for name in ("crates.txt", "HANDLES"):
+            shutil.copy(TOP / name, folder / name)
     crate = folder / "crates" / "checkpointed"
     if not crate.exists():
         (crate / "src").mkdir(parents=True)
         with open(folder / "crates.txt", "a") as out:
             out.write("\ncheckpointed: commit parse syntax sqlite_items value\n")
     (crate / "src" / "main.rt").write_text(PROGRAM.format(rows=rows, commits=commits, every=every))
-    subprocess.run(["rt", "run"], cwd=crate, check=True, stdout=subprocess.DEVNULL)
+    carry_out(["rt", "run"], cwd=crate, quiet=True)
     return str(crate / "out" / "checkpointed")
 
 
-def measured(folder, rows, commits, every):
+def measured(folder: pathlib.Path, rows: int, commits: int, every: int) -> Used:
+    """What a run of it takes."""
     return launched([program(folder, rows, commits, every)], os.devnull)
 
 
-def main():
-    words = argparse.ArgumentParser(description=__doc__, formatter_class=argparse.RawDescriptionHelpFormatter)
+def main() -> None:
+    words = parser_of(__doc__, whole=True)
     words.add_argument("--commits", type=int, default=1_000_000)
     words.add_argument("--rows", type=int, default=10_000)
     words.add_argument("--every", type=int, default=10_000)
     asked = words.parse_args()
     rows = []
-    with tempfile.TemporaryDirectory() as folder:
+    with temporary_folder() as folder:
         for commits, every in ((0, 0), (asked.every, 0), (asked.commits, asked.every), (asked.commits, 0)):
-            used = measured(pathlib.Path(folder), asked.rows, commits, every)
+            used = measured(folder, asked.rows, commits, every)
             rows.append([f"{commits:,}", f"{every:,}" if every else "none", f"{used.seconds:.1f}",
                          f"{(used.memory - least_memory()) / 1e6:,.0f}"])
     table(["commits", "a checkpoint every", "processor seconds", "peak memory, MB"], rows)
 
 
-main()
+if __name__ == "__main__":
+    main()

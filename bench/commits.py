@@ -30,15 +30,18 @@ What counts is the processor time of the replay less that of loading alone. Each
 with the commits that it sees, each statement, each COMMIT with its number, and the closing part.
 """
 
-import argparse
-import os
+from __future__ import annotations
+
+import pathlib
 import random
 import statistics
 import sys
-import tempfile
+import typing
+from collections.abc import Iterable, Iterator, Sequence
 
 from replays import (
-    built, digits, exponent, least_memory, loads, machine, measured_replay, numbers_of, power, spread, table, written)
+    Path, digits, exponent, least_memory, load_at_end, loads, machine, measured_replay, numbers_of, parser_of, power,
+    program_of, spread, table, take_program, temporary_folder, written)
 
 TRANSACTIONS = 20_000  # of all sessions together
 HISTORY_KEYS = 1_000
@@ -47,11 +50,32 @@ HISTORY_KEYS = 1_000
 REPETITIONS_OF_HISTORY = {1_000: 15, 10_000: 7, 1_000_000: 1}
 
 
+Answered = tuple[str, str]  # a statement, and its reply; a SELECT's goes on with the row
+
+
+class Event(typing.NamedTuple):
+    """An event of a session, and how its reply begins."""
+
+    session: str
+    text: str
+    reply: str
+
+
 class Load:
     """A load whose transactions may begin with a SELECT by key, the look."""
 
-    def __init__(self, look=True):
+    name = ""
+
+    def __init__(self, look: bool = True) -> None:
         self.look = look
+
+    def definitions(self, keys: int) -> Iterator[str]:
+        """Tables of so many keys, and their rule."""
+        raise NotImplementedError
+
+    def statements(self, drawn: random.Random, keys: int) -> Iterator[Answered]:
+        """Statements of one transaction."""
+        raise NotImplementedError
 
 
 class OnCall(Load):
@@ -59,10 +83,10 @@ class OnCall(Load):
 
     name = "on-call"
 
-    definitions = staticmethod(loads.on_call)
+    def definitions(self, keys: int) -> Iterator[str]:
+        return loads.on_call(keys)
 
-    def statements(self, drawn, keys):
-        """Statements of one transaction, each with its reply; a SELECT's goes on with the row."""
+    def statements(self, drawn: random.Random, keys: int) -> Iterator[Answered]:
         comes = drawn.randrange(keys)
         goes = comes - comes % loads.MEMBERS + (comes + drawn.randrange(1, loads.MEMBERS)) % loads.MEMBERS
         if self.look:
@@ -76,10 +100,10 @@ class Ledger(Load):
 
     name = "ledger"
 
-    definitions = staticmethod(loads.ledger)
+    def definitions(self, keys: int) -> Iterator[str]:
+        return loads.ledger(keys)
 
-    def statements(self, drawn, keys):
-        """Statements of one transaction, each with its reply; a SELECT's goes on with the row."""
+    def statements(self, drawn: random.Random, keys: int) -> Iterator[Answered]:
         one, other = drawn.sample(range(keys), 2)
         amount = drawn.randint(1, 100)
         if self.look:
@@ -88,32 +112,32 @@ class Ledger(Load):
         yield f"UPDATE ACCT SET BAL = BAL + {amount} WHERE ID = {other}", "UPDATE 1"
 
 
-def turns(load, keys, sessions):
-    """The events of a script, each with its session and how its reply begins."""
+def turns(load: Load, keys: int, sessions: int) -> Iterator[Event]:
+    """The events of a script."""
     drawn = random.Random(f"{load.name} {keys} {sessions}")
     for turn in range(TRANSACTIONS + sessions):
         session = f"S{turn % sessions}"
         if turn >= sessions:
-            yield session, "COMMIT", "COMMIT"
+            yield Event(session, "COMMIT", "COMMIT")
         if turn < TRANSACTIONS:
-            yield session, "BEGIN", "BEGIN"
+            yield Event(session, "BEGIN", "BEGIN")
             for statement, reply in load.statements(drawn, keys):
-                yield session, statement, reply
+                yield Event(session, statement, reply)
 
 
-def history(commits, behind, end="COMMIT"):
+def history(commits: int, behind: bool, end: str = "COMMIT") -> Iterator[Event]:
     """The events of one session that commits so many times, or is rolled back; behind another that is open, or not."""
     if behind:
-        yield "W", "BEGIN", "BEGIN"
+        yield Event("W", "BEGIN", "BEGIN")
     for number in range(commits):
-        yield "A", "BEGIN", "BEGIN"
-        yield "A", f"UPDATE ACCT SET BAL = BAL + 1 WHERE ID = {number * 619 % HISTORY_KEYS}", "UPDATE 1"
-        yield "A", end, end
+        yield Event("A", "BEGIN", "BEGIN")
+        yield Event("A", f"UPDATE ACCT SET BAL = BAL + 1 WHERE ID = {number * 619 % HISTORY_KEYS}", "UPDATE 1")
+        yield Event("A", end, end)
     if behind:
-        yield "W", "ROLLBACK", "ROLLBACK"
+        yield Event("W", "ROLLBACK", "ROLLBACK")
 
 
-def looked_at(output, events):
+def looked_at(output: Path, events: Iterable[Event]) -> tuple[int, dict[str, int]]:
     """Commits, and refused COMMITs by their faults, after a look at each line of a report."""
     commits, refused = 0, {"12 40001": 0, "13 40001": 0}
     with open(output) as lines:
@@ -137,7 +161,7 @@ def looked_at(output, events):
     return commits, refused
 
 
-def check_closing(lines, commits, refused):
+def check_closing(lines: Iterator[str], commits: int, refused: int) -> None:
     """The closing part: each commit, the serial order, each refused COMMIT, and that the rule is true."""
     expect(lines, f"COMMITS {commits}")
     for number in range(1, commits + 1):
@@ -154,19 +178,21 @@ def check_closing(lines, commits, refused):
         sys.exit("the rule is not true in the end")
 
 
-def expect(lines, want):
+def expect(lines: Iterator[str], want: str) -> None:
+    """The next line has to be this one."""
     line = next(lines, "").rstrip("\n")
     if line != want:
         sys.exit(f"the closing part has {line} and not {want}")
 
 
-def at_once(program, load, keys, sizes, repetitions, folder):
+def at_once(program: Path, load: Load, keys: int, sizes: Sequence[int], repetitions: int,
+            folder: pathlib.Path) -> list[list[str]]:
     """For each number of open transactions a row of the table."""
-    definitions = written(f"{folder}/defs", load.definitions(keys))
-    empty, output = written(f"{folder}/empty", []), f"{folder}/output"
+    definitions = written(folder / "defs", load.definitions(keys))
+    empty, output = written(folder / "empty", []), folder / "output"
     rows = []
     for sessions in sizes:
-        path = written(f"{folder}/script", loads.script(turns(load, keys, sessions)))
+        path = written(folder / "script", loads.script(turns(load, keys, sessions)))
         seconds, loading = [], []
         for _ in range(repetitions):
             loading.append(measured_replay(program, definitions, empty).seconds)
@@ -181,40 +207,45 @@ def at_once(program, load, keys, sizes, repetitions, folder):
     return rows
 
 
-class Past:
-    """Of one length of history: seconds in each repetition less loading, and bytes, of it those of the script."""
+class Past(typing.NamedTuple):
+    """Of one length of history: seconds in each repetition less loading, and bytes a commit, of it those of the
+    script."""
 
-    def __init__(self, commits):
-        self.commits = commits
-        self.all_seconds = []
-        self.memory = self.script = None
+    commits: int
+    all_seconds: list[float]
+    memory: float
+    script: float
 
-    seconds = property(lambda self: statistics.median(self.all_seconds))
+    @property
+    def seconds(self) -> float:
+        return statistics.median(self.all_seconds)
 
-    def __str__(self):
+    def __str__(self) -> str:
         return f"{self.commits} commits, {spread('us', (one / self.commits * 1e6 for one in self.all_seconds), 2)}"
 
 
-def past(program, commits, behind, repetitions, folder):
-    definitions = written(f"{folder}/defs", Ledger().definitions(HISTORY_KEYS))
-    empty, output = written(f"{folder}/empty", []), f"{folder}/output"
-    path = written(f"{folder}/script", loads.script(history(commits, behind)))
-    found = Past(commits)
+def past(program: Path, commits: int, behind: bool, repetitions: int, folder: pathlib.Path) -> Past:
+    definitions = written(folder / "defs", Ledger().definitions(HISTORY_KEYS))
+    empty, output = written(folder / "empty", []), folder / "output"
+    path = written(folder / "script", loads.script(history(commits, behind)))
+    seconds = []
     for _ in range(REPETITIONS_OF_HISTORY.get(commits, repetitions)):
         alone = measured_replay(program, definitions, empty)
         whole = measured_replay(program, definitions, path, output, commits)
-        found.all_seconds.append(whole.seconds - alone.seconds)
-    found.memory = (whole.memory - alone.memory) / commits
+        seconds.append(whole.seconds - alone.seconds)
     if looked_at(output, history(commits, behind))[0] != commits:
         sys.exit("a transaction was not committed")
     written(path, loads.script(history(commits, behind, "ROLLBACK")))
-    found.script = (measured_replay(program, definitions, path, output).memory - alone.memory) / commits
+    rolled_back = measured_replay(program, definitions, path, output)
     looked_at(output, history(commits, behind, "ROLLBACK"))
-    return found
+    bytes_of = ((used.memory - alone.memory) / commits for used in (whole, rolled_back))
+    return Past(commits, seconds, *bytes_of)
 
 
-def print_history(found):
-    rows, before = [], None
+def print_history(found: Sequence[Past]) -> None:
+    """The table of histories."""
+    rows = []
+    before: Past | None = None
     for one in found:
         later = (one.seconds - before.seconds) / (one.commits - before.commits) if before else one.seconds / one.commits
         cells = [f"{one.commits:,}", digits(one.seconds / one.commits * 1e6), digits(later * 1e6)]
@@ -227,9 +258,9 @@ def print_history(found):
     print(f"\nThe time of a commit grows by the exponent {growth} from {least:,} commits to {most:,}.")
 
 
-def main():
-    words = argparse.ArgumentParser(description="Committed transactions a second, and a commit by those before it.")
-    words.add_argument("--program", help="the program skewguard; without it `rt run` builds it")
+def main() -> None:
+    words = parser_of("Committed transactions a second, and a commit by those before it.")
+    take_program(words)
     words.add_argument("--keys", default="1000,100000", help="keys of the loads with several open transactions")
     words.add_argument("--open", default="1,4,16,64", help="how many are open at once, at most 256")
     words.add_argument("--history", default="1000,10000,100000", help="commits in one history")
@@ -237,18 +268,19 @@ def main():
     words.add_argument("--repetitions", type=int, default=3)
     words.add_argument("--without-look", action="store_true", help="leaves out the SELECT of each transaction")
     chosen = words.parse_args()
-    program = chosen.program or built()
+    program = program_of(chosen)
     print(machine(chosen.repetitions))
     print(f"a peak below {least_memory() / 1e6:.1f} MB can't be told", flush=True)
-    rows, found = [], []
-    with tempfile.TemporaryDirectory() as folder:
+    rows: list[list[str]] = []
+    found: list[Past] = []
+    with temporary_folder() as folder:
         for load in (OnCall(not chosen.without_look), Ledger(not chosen.without_look)):
             for keys in numbers_of(chosen.keys):
                 rows += at_once(program, load, keys, numbers_of(chosen.open), chosen.repetitions, folder)
         for commits in numbers_of(chosen.history):
             found.append(past(program, commits, chosen.behind, chosen.repetitions, folder))
             print(found[-1], flush=True)
-    print(f"load at the end {os.getloadavg()[0]:.1f}")
+    load_at_end()
     heads = ["load", "keys", "open at once", "committed a second", "us a transaction"]
     if rows:
         table(heads + ["refused: same row (12)", "refused: dangerous triple (13)"], rows)

@@ -19,40 +19,51 @@ lie close to what the loaded rows reach, so that some statements are refused.
 The first case that differs is written to the folder of --differs (two files, and both reports), and ends the run.
 """
 
-import argparse
+from __future__ import annotations
+
 import collections
-import os
 import pathlib
 import random
 import shlex
 import sys
 import time
+import typing
+from collections.abc import Sequence
 
-from replays import PROGRAM, placed, run, write
+from replays import PROGRAM, Answer, ended, parser_of, placed, run, write
 
 COMPARISONS = ["<", "<=", ">", ">=", "=", "<>"]
 ATTRIBUTES = ["", "", " DEFERRABLE", " INITIALLY DEFERRED"]
 
 
+class Row(typing.NamedTuple):
+    """A row of a table; None is NULL."""
+
+    key: int
+    group: int | None
+    number: int | None
+
+
 class Table:
     """A table of a key, a group and a number. Its keys are even when it is loaded, so that new ones fall between."""
 
-    def __init__(self, rng, name, rows, groups):
+    def __init__(self, rng: random.Random, name: str, rows: int, groups: int) -> None:
         self.rng, self.name, self.groups = rng, name, groups
         self.text_keys, self.text_groups = rng.random() < 0.25, rng.random() < 0.4
         self.columns = ["K", "G", "N"]
         if rng.random() < 0.3:
             rng.shuffle(self.columns)
-        self.loaded = [(2 * place, self.group(), self.number()) for place in range(rows)]
+        self.loaded = [Row(2 * place, self.group(), self.number()) for place in range(rows)]
         self.last = 2 * rows
 
-    def group(self):
+    def group(self) -> int | None:
         return None if self.rng.random() < 0.03 else self.rng.randrange(self.groups)
 
-    def number(self):
+    def number(self) -> int | None:
         return None if self.rng.random() < 0.05 else self.rng.randint(-20, 500)
 
-    def definition(self):
+    def definition(self) -> str:
+        """The table as it is created."""
         types = {
             "K": "VARCHAR(6) PRIMARY KEY" if self.text_keys else "INTEGER PRIMARY KEY",
             "G": "VARCHAR(6)" if self.text_groups else "INTEGER",
@@ -60,20 +71,20 @@ class Table:
         }
         return f"CREATE TABLE {self.name} ({', '.join(f'{column} {types[column]}' for column in self.columns)})"
 
-    def key_text(self, key):
+    def key_text(self, key: int) -> str:
         """Texts of the same length are in the order of the numbers that they write."""
         return f"'K{key:05}'" if self.text_keys else str(key)
 
-    def group_text(self, group):
+    def group_text(self, group: int | None) -> str:
         if group is None:
             return "NULL"
         return f"'G{group:04}'" if self.text_groups else str(group)
 
-    def insert(self, key, group, number):
+    def insert(self, key: int, group: int | None, number: int | None) -> str:
         values = {"K": self.key_text(key), "G": self.group_text(group), "N": "NULL" if number is None else str(number)}
         return f"INSERT INTO {self.name} VALUES ({', '.join(values[column] for column in self.columns)})"
 
-    def loading(self):
+    def loading(self) -> list[str]:
         """By key upwards, downwards, or in any order: pages are cut at other places."""
         rows = list(self.loaded)
         order = self.rng.choice(["up", "down", "any"])
@@ -83,12 +94,12 @@ class Table:
             self.rng.shuffle(rows)
         return [self.insert(*row) for row in rows]
 
-    def any_key(self):
+    def any_key(self) -> int:
         """Mostly that of a row, sometimes one between rows or behind all."""
         key = 2 * self.rng.randrange(self.last // 2)
         return key if self.rng.random() < 0.8 else self.rng.randrange(self.last + 4)
 
-    def by_key(self):
+    def by_key(self) -> str:
         where = f"K = {self.key_text(self.any_key())}"
         kind = self.rng.random()
         if kind < 0.1:
@@ -103,7 +114,7 @@ class Table:
             return f"{where} OR K = {self.key_text(self.any_key())}"
         return where
 
-    def by_range(self):
+    def by_range(self) -> str:
         first = self.any_key()
         width = self.rng.choice([10, 40, 130, 130, 260, 400])
         last = self.key_text(min(first + width, 99_999))
@@ -116,14 +127,14 @@ class Table:
         edge = self.rng.randrange(self.last // 4)
         return f"K < {self.key_text(edge)}" if kind < 0.92 else f"K >= {self.key_text(self.last - edge)}"
 
-    def by_group(self):
+    def by_group(self) -> str:
         return f"G = {self.group_text(self.rng.randrange(self.groups))}"
 
-    def where(self):
+    def where(self) -> str:
         kind = self.rng.random()
         return self.by_key() if kind < 0.65 else self.by_range() if kind < 0.9 else self.by_group()
 
-    def setting(self):
+    def setting(self) -> str:
         kind = self.rng.random()
         if kind < 0.4:
             return f"N = {self.rng.randint(-40, 500)}"
@@ -134,7 +145,7 @@ class Table:
         group = self.group_text(self.group())
         return f"G = {group}" if kind < 0.9 else f"G = {group}, N = {self.rng.randint(-20, 500)}"
 
-    def statement(self):
+    def statement(self) -> str:
         kind = self.rng.random()
         if kind < 0.3:
             return f"UPDATE {self.name} SET {self.setting()} WHERE {self.where()}"
@@ -151,15 +162,15 @@ class Table:
             f"SELECT K FROM {self.name}",
         ])
 
-    def run_of_inserts(self):
+    def run_of_inserts(self) -> list[str]:
         """Rows side by side, which cut a page."""
         first, count = self.any_key() | 1, self.rng.randint(5, 35)
         return [self.insert(first + 2 * step, self.group(), self.number()) for step in range(count)]
 
 
-def by_groups(rng, table):
+def by_groups(rng: random.Random, table: Table) -> str:
     """An assertion by groups that the loaded rows keep by a little."""
-    members = collections.defaultdict(list)
+    members: dict[int | None, list[int | None]] = collections.defaultdict(list)
     for _, group, number in table.loaded:
         members[group].append(number)
     numbers = [[number for number in those if number is not None] for those in members.values()]
@@ -169,14 +180,14 @@ def by_groups(rng, table):
         f"SUM(N) < {min(sums) - slack}",
         f"SUM(N) > {max(sums) + slack}",
         f"COUNT(*) > {max(len(those) for those in members.values()) + rng.choice([0, 1, 5])}",
-        f"MIN(N) < {min(map(min, numbers)) - slack}",
-        f"MAX(N) > {max(map(max, numbers)) + slack}",
+        f"MIN(N) < {min(min(those) for those in numbers) - slack}",
+        f"MAX(N) > {max(max(those) for those in numbers) + slack}",
         f"MAX(N) - MIN(N) > {max(max(those) - min(those) for those in numbers) + slack}",
     ])
     return f"NOT EXISTS (SELECT G FROM {table.name} GROUP BY G HAVING {having})"
 
 
-def by_rows(rng, table, other):
+def by_rows(rng: random.Random, table: Table, other: Table | None) -> str:
     """An assertion by rows that the loaded rows keep by a little. The rows count those of `other`, if it is given."""
     if other is not None:
         counts = collections.Counter(group for _, group, _ in other.loaded)
@@ -202,7 +213,7 @@ class Case:
     In a third of the cases the rows of the second table, which are few then, count those of the first.
     """
 
-    def __init__(self, seed):
+    def __init__(self, seed: str) -> None:
         rng = self.rng = random.Random(seed)
         linked = rng.random() < 0.33
         small = rng.randint(8, 20)
@@ -217,11 +228,11 @@ class Case:
         texts = [table.definition() for table in self.tables]
         for place, rule in enumerate(rules):
             texts.append(f"CREATE ASSERTION A{place} CHECK ({rule}){rng.choice(ATTRIBUTES)}")
-        self.definitions = "".join(f"{text};\n" for text in texts + first.loading() + second.loading())
-        self.script = "".join(f"{event};\n" for event in self.events())
+        self.definitions = ended([*texts, *first.loading(), *second.loading()])
+        self.script = ended(self.events())
         self.rows = len(first.loaded) + len(second.loaded)
 
-    def statements(self):
+    def statements(self) -> list[str]:
         rng = self.rng
         table = self.tables[0] if len(self.tables[1].loaded) < 300 and rng.random() < 0.8 else rng.choice(self.tables)
         if rng.random() < 0.02:
@@ -232,11 +243,12 @@ class Case:
                                 f"SET CONSTRAINTS {meant} IMMEDIATE"])]
         return [table.statement()]
 
-    def events(self):
+    def events(self) -> list[str]:
         """Some hundred events of one to three sessions, whose transactions overlap."""
         rng = self.rng
         sessions = ["A", "B", "C"][:rng.choice([1, 2, 2, 3])]
-        left, made = {}, []
+        left: dict[str, int] = {}
+        made: list[str] = []
         while len(made) < 100:
             session = rng.choice(sessions)
             if session not in left:
@@ -251,12 +263,15 @@ class Case:
         return made + [f"{session}: COMMIT" for session in left if rng.random() < 0.7]
 
 
-def report(command, files):
+Met = collections.Counter[str]
+
+
+def report(command: str, files: Sequence[str]) -> Answer:
     """What a command answers to the two files."""
-    return run([*shlex.split(command), *files], timeout=600)
+    return run([*shlex.split(command), *files])
 
 
-def count_answers(met, output):
+def count_answers(met: Met, output: str) -> None:
     """Counts the answers of a report by their words, refusals by their numbers, up to the closing part."""
     for line in output.split("\nCOMMITS ")[0].splitlines():
         words = line.split()
@@ -272,23 +287,26 @@ def count_answers(met, output):
             met[words[1]] += 1
 
 
-def keep_difference(folder, case, want, got):
-    os.makedirs(folder, exist_ok=True)
+def keep_difference(folder: pathlib.Path, case: Case, want: Answer, got: Answer) -> None:
+    """Writes a case and both reports."""
+    folder.mkdir(parents=True, exist_ok=True)
     for name, text in (("defs", case.definitions), ("script", case.script),
                        ("wanted", want.output + want.error), ("got", got.output + got.error)):
-        write(pathlib.Path(folder, name), text)
+        write(folder / name, text)
 
 
-def main():
-    words = argparse.ArgumentParser(description="Random scripts on large tables, through skewguard and a reference.")
+def main() -> int:
+    words = parser_of("Random scripts on large tables, through skewguard and a reference.")
     words.add_argument("--reference", required=True, help="a command that prints the report of DEFS and SCRIPT")
     words.add_argument("--program", default=f"{PROGRAM} replay", help="the command of the program itself")
     words.add_argument("--cases", type=int, default=200)
     words.add_argument("--seed", type=int, default=1)
     words.add_argument("--minutes", type=float, default=10, help="no case is begun after so many")
-    words.add_argument("--differs", default="DIFFERS", help="where a case that differs is written")
+    words.add_argument("--differs", type=pathlib.Path, default=pathlib.Path("DIFFERS"),
+        help="where a case that differs is written")
     chosen = words.parse_args()
-    met, done, rows, start = collections.Counter(), 0, 0, time.monotonic()
+    met: Met = collections.Counter()
+    done, rows, start = 0, 0, time.monotonic()
     slow = quick = 0.0
     for number in range(chosen.cases):
         if time.monotonic() - start > 60 * chosen.minutes:

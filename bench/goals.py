@@ -42,7 +42,8 @@ Each answer is looked at: a refused statement, a wrong total, or a side that doe
 run.
 """
 
-import argparse
+from __future__ import annotations
+
 import collections
 import hashlib
 import os
@@ -52,17 +53,19 @@ import shutil
 import sqlite3
 import subprocess
 import sys
-import tempfile
 import threading
 import time
+import typing
+from collections.abc import Callable, Iterable, Iterator, Mapping, Sequence
 
 import threads
 from languages import changes_of, update_of
 from replays import (
-    TOP, Figures, built, digits, exponent, launched, loads, machine, measured_replay, numbers_of, power, servers, table,
-    written)
-from statements import (FORMS, REFUSE, ROUNDS, ROUNDS_TRIGGERS, SHIFTS, TRIGGERS, Files, add_rule, check_refusals,
-                        check_report, check_totals, in_one_transaction, script_of_rounds, text, valued)
+    TOP, Figures, Path, digits, exponent, launched, load_at_end, loads, machine, measured_replay, memory_folder,
+    numbers_of, output_of, parser_of, pipe, power, program_of, run, servers, table, take_program, temporary_folder,
+    words_of_replay, written)
+from statements import (FORMS, REFUSE, ROUNDS, ROUNDS_TRIGGERS, SHIFTS, TRIGGERS, Files, Form, Step, Values, add_rule,
+                        check_refusals, check_report, check_totals, in_one_transaction, script_of_rounds, text, valued)
 
 FORM_NAMES = ("by group", "by row", "single", "no assertion")
 WORKS = ("transaction", "statement")
@@ -95,16 +98,20 @@ BESIDE_SQLITE = [
 PAIRS = [("as run", WHOLE, PREPARED, CLOCK), ("alone", ENGINE, FROM_C, BACKEND)]
 
 
+Found = Mapping[tuple[str, int], Figures]  # by the name of a form and the size of its tables
+Forms = Mapping[str, Form]
+
+
 # -- skewguard
 
 
-def script_of_transactions(form, rows, count, begin="BEGIN"):
+def script_of_transactions(form: Form, rows: int, count: int, begin: str = "BEGIN") -> Iterator[str]:
     """Transactions of one UPDATE each; with another word in the place of BEGIN each event is refused."""
     update = update_of(form)
     return loads.transactions((valued(update, one) for one in changes_of(form, rows, count)), begin)
 
 
-def check_transactions(output, form, count):
+def check_transactions(output: Path, form: Form, count: int) -> None:
     """Every transaction was committed, and the rule is true in the end."""
     want = "".join(f"A: BEGIN {one}\nA: UPDATE 1\nA: COMMIT {one + 1}\n" for one in range(count)) + f"COMMITS {count}\n"
     report = pathlib.Path(output).read_text()
@@ -112,20 +119,27 @@ def check_transactions(output, form, count):
         sys.exit("a transaction was not answered as it has to be")
 
 
-# For each work its script, the look at its report, and how many of it there are in a round.
+class Work(typing.NamedTuple):
+    """The script of a work, the look at its report, and how many of it there are in a round."""
+
+    script: Callable[[Form, int, int, str], Iterator[str]]
+    check: Callable[[Path, Form, int], None]
+    each: int
+
+
 SCRIPTS = {
-    "transaction": (script_of_transactions, check_transactions, 1),
-    "statement": (script_of_rounds, check_report, 3),
+    "transaction": Work(script_of_transactions, check_transactions, 1),
+    "statement": Work(script_of_rounds, check_report, 3),
 }
 
 
-def reading(program, folder, script):
+def reading(program: Path, folder: pathlib.Path, script: Path) -> float:
     """The processor seconds that reading a script takes: definitions without a key are refused once it is read."""
-    refused = written(f"{folder}/refused", ["CREATE TABLE T (A INTEGER);\n"])
-    return launched([os.path.abspath(program), "replay", refused, script], os.devnull, end=1).seconds
+    refused = written(folder / "refused", ["CREATE TABLE T (A INTEGER);\n"])
+    return launched(words_of_replay(program, refused, script), os.devnull, end=1).seconds
 
 
-def of_skewguard(program, files, small, form, rows, figures):
+def of_skewguard(program: Path, files: Files, small: Files, form: Form, rows: int, figures: Figures) -> None:
     """Figures of both works, and of loading."""
     loading = measured_replay(program, files.definitions, files.empty)
     figures["loading"].append(loading.seconds)
@@ -133,7 +147,7 @@ def of_skewguard(program, files, small, form, rows, figures):
     idle = measured_replay(program, small.definitions, small.empty).seconds
     rounds = ROUNDS.get(rows, 20_000)
     for work, (script, check, each) in SCRIPTS.items():
-        written(files.script, script(form, rows, rounds))
+        written(files.script, script(form, rows, rounds, "BEGIN"))
         written(small.script, script(form, rows, rounds, "COMMIT"))
         whole = measured_replay(program, files.definitions, files.script, files.output).seconds - loading.seconds
         check(files.output, form, rounds)
@@ -143,28 +157,30 @@ def of_skewguard(program, files, small, form, rows, figures):
             figures[work, column].append(seconds / (each * rounds) * 1e6)
 
 
-def in_memory(program, definitions):
+def in_memory(program: Path, definitions: Path) -> tuple[int, int]:
     """The bytes that are resident when `shell` has answered its first event, and the most that were until then."""
-    command = [os.path.abspath(program), "shell", definitions]
+    command = [program, "shell", definitions]
     with subprocess.Popen(command, stdin=subprocess.PIPE, stdout=subprocess.PIPE, text=True) as shell:
-        shell.stdin.write("BEGIN;\n")
-        shell.stdin.flush()
-        if shell.stdout.readline() != "ME: BEGIN 0\n":
+        into = pipe(shell.stdin)
+        into.write("BEGIN;\n")
+        into.flush()
+        if pipe(shell.stdout).readline() != "ME: BEGIN 0\n":
             sys.exit("the shell has not answered as it has to")
         status = pathlib.Path(f"/proc/{shell.pid}/status").read_text()
-        shell.stdin.close()
-    return [1024 * int(re.search(rf"{name}:\s+(\d+) kB", status)[1]) for name in ("VmRSS", "VmHWM")]
+        into.close()
+    (resident,), (peak,) = (re.findall(rf"{name}:\s+(\d+) kB", status) for name in ("VmRSS", "VmHWM"))
+    return 1024 * int(resident), 1024 * int(peak)
 
 
-def of_memory(program, files, small, figures):
+def of_memory(program: Path, files: Files, small: Files, figures: Figures) -> None:
     """What is resident after loading, and at the peak, and without the text of DEFS. Each run has the same."""
     least, least_peak = in_memory(program, small.definitions)
     lines = [pathlib.Path(small.definitions).read_text(), *["-- " + 96 * "x" + "\n"] * COMMENT_LINES]
-    commented, _ = in_memory(program, written(f"{small.folder}/commented", lines))
-    held = min(1, max(0, round((commented - least) / (100 * COMMENT_LINES), 1)))
+    commented, _ = in_memory(program, written(small.folder / "commented", lines))
+    held = min(1.0, max(0.0, round((commented - least) / (100 * COMMENT_LINES), 1)))
     resident, peak = in_memory(program, files.definitions)
     size = os.path.getsize(files.definitions)
-    counts = {"text": size, "peak": peak - least_peak, "resident": resident - least}
+    counts: dict[str, float] = {"text": size, "peak": peak - least_peak, "resident": resident - least}
     for name, count in [*counts.items(), ("resident without text", resident - least - held * size)]:
         figures[name].append(count)
 
@@ -172,7 +188,7 @@ def of_memory(program, files, small, figures):
 # -- SQLite
 
 
-def loaded_from_text(form, rows):
+def loaded_from_text(form: Form, rows: int) -> tuple[sqlite3.Connection, float]:
     """SQLite with the tables and the triggers, from the texts that skewguard gets, and the processor seconds of it."""
     script = "".join([*form.tables, "BEGIN;\n", *form.inserts(rows), "COMMIT;\n"])
     base = sqlite3.connect(":memory:", isolation_level=None)
@@ -184,7 +200,7 @@ def loaded_from_text(form, rows):
     return base, used
 
 
-def prepared_transactions(base, update, changes):
+def prepared_transactions(base: sqlite3.Connection, update: str, changes: Iterable[Values]) -> float:
     """The processor seconds of transactions of one UPDATE each."""
     execute, start = base.execute, time.process_time()
     for values in changes:
@@ -195,24 +211,22 @@ def prepared_transactions(base, update, changes):
     return time.process_time() - start
 
 
-def driver_in_c(folder):
+def driver_in_c(folder: pathlib.Path) -> pathlib.Path | None:
     """The program of bench/sqlite.c; None without a C compiler or the header of SQLite."""
-    program = f"{folder}/sqlite"
-    command = ["cc", "-std=gnu99", "-O2", "-o", program, f"{TOP}/bench/sqlite.c", "-lsqlite3"]
-    is_built = shutil.which("cc") and subprocess.run(command, stderr=subprocess.DEVNULL).returncode == 0
-    return program if is_built else None
+    program = folder / "sqlite"
+    command = ["cc", "-std=gnu99", "-O2", "-o", str(program), f"{TOP}/bench/sqlite.c", "-lsqlite3"]
+    return program if shutil.which("cc") and not run(command).status else None
 
 
-def from_c(driver, database, steps, folder):
+def from_c(driver: pathlib.Path, database: pathlib.Path, steps: Sequence[Step], folder: pathlib.Path) -> float:
     """The processor seconds of statements with their values, on a copy in memory of a database."""
     numbers = {statement: number for number, statement in enumerate(dict.fromkeys(one for one, _ in steps))}
-    statements = written(f"{folder}/statements", (f"{one}\n" for one in numbers))
+    statements = written(folder / "statements", (f"{one}\n" for one in numbers))
     lines = (" ".join(map(str, (numbers[statement], *values))) + "\n" for statement, values in steps)
-    command = [driver, database, statements, written(f"{folder}/work", lines)]
-    return float(subprocess.run(command, check=True, stdout=subprocess.PIPE, text=True).stdout)
+    return float(output_of([driver, database, statements, written(folder / "work", lines)], timeout=None))
 
 
-def as_text(base, lines):
+def as_text(base: sqlite3.Connection, lines: Iterable[str]) -> float:
     """The processor seconds of a script of statements, in one call."""
     script = "".join(lines)
     start = time.process_time()
@@ -220,9 +234,9 @@ def as_text(base, lines):
     return time.process_time() - start
 
 
-def copies_of(base, database):
-    """Copies of a base in SQLite, one in memory and one in a file."""
-    pathlib.Path(database).unlink(missing_ok=True)
+def copies_of(base: sqlite3.Connection, database: pathlib.Path) -> sqlite3.Connection:
+    """A copy in memory of a base in SQLite; another one is in a file."""
+    database.unlink(missing_ok=True)
     other, file = sqlite3.connect(":memory:", isolation_level=None), sqlite3.connect(database)
     for copy in (other, file):
         base.backup(copy)
@@ -230,35 +244,39 @@ def copies_of(base, database):
     return other
 
 
-def of_sqlite(driver, form, rows, folder, figures):
+def of_sqlite(driver: pathlib.Path | None, form: Form, rows: int, folder: pathlib.Path, figures: Figures) -> None:
     """Figures of both works, and of loading."""
     base, seconds = loaded_from_text(form, rows)
     figures["SQLite loading"].append(seconds)
     (pages,), (size,) = (base.execute(f"PRAGMA {what}").fetchone() for what in ("page_count", "page_size"))
     figures["SQLite bytes"].append(pages * size)
-    database = f"{folder}/database"
+    database = folder / "database"
     other = copies_of(base, database)
 
     steps = [one for number in range(ROUNDS_TRIGGERS) for one in form.round(number, rows)]
-    times = [in_one_transaction(base, form, steps, TRIGGERS)]
-    times.append(as_text(other, ["BEGIN;\n", *(f"{text(*one)}\n" for one in steps)]))
-    check_totals(other, form) if form.condition else None
+    prepared = in_one_transaction(base, form, steps, TRIGGERS)
+    one_text = as_text(other, ["BEGIN;\n", *(f"{text(*one)}\n" for one in steps)])
+    if form.condition:
+        check_totals(other, form)
     other.execute("ROLLBACK")
-    times.append(from_c(driver, database, [("BEGIN", ()), *steps], folder) if driver else None)
-    add_times(figures, "statement", len(steps), times)
+    compiled = from_c(driver, database, [("BEGIN", ()), *steps], folder) if driver else None
+    add_times(figures, "statement", len(steps), prepared, one_text, compiled)
 
     update, changes = update_of(form), list(changes_of(form, rows, TRANSACTIONS_SQLITE))
-    times = [prepared_transactions(base, update, changes)]
-    times.append(as_text(other, (f"BEGIN;\n{text(update, values)}\nCOMMIT;\n" for values in changes)))
-    steps = [one for values in changes for one in (("BEGIN", ()), (update, values), ("COMMIT", ()))]
-    times.append(from_c(driver, database, steps, folder) if driver else None)
-    add_times(figures, "transaction", len(changes), times)
+    prepared = prepared_transactions(base, update, changes)
+    one_text = as_text(other, (f"BEGIN;\n{text(update, values)}\nCOMMIT;\n" for values in changes))
+    begin, commit = ("BEGIN", ()), ("COMMIT", ())
+    steps = [one for values in changes for one in (begin, (update, values), commit)]
+    compiled = from_c(driver, database, steps, folder) if driver else None
+    add_times(figures, "transaction", len(changes), prepared, one_text, compiled)
     for each in (base, other):
-        check_totals(each, form) if form.condition else None
+        if form.condition:
+            check_totals(each, form)
         each.close()
 
 
-def add_times(figures, work, count, times):
+def add_times(figures: Figures, work: str, count: int, *times: float | None) -> None:
+    """Adds seconds of a work, so many of it, in the three ways of SQLite."""
     for column, seconds in zip((PREPARED, AS_TEXT, FROM_C), times):
         if seconds is not None:
             figures[work, column].append(seconds / count * 1e6)
@@ -271,9 +289,11 @@ MARK = "\\! cut -d ' ' -f 1 /proc/$BACKEND/schedstat; date +%s.%N\n"
 FAULT = "RAISE EXCEPTION USING ERRCODE = '23000', MESSAGE = 'RULE'"
 
 
-def for_postgresql(trigger):
+def for_postgresql(trigger: str) -> Iterator[str]:
     """A trigger of SQLite as a function of PostgreSQL and a trigger that calls it, with the same statements."""
     parts = re.fullmatch(r"CREATE TRIGGER (\w+) (AFTER .* ON \w+)( WHEN (.*?))? BEGIN(.*)END", trigger, re.S)
+    if not parts:
+        sys.exit(f"this is no trigger: {trigger}")
     name, event, _, condition, body = parts.groups()
     statements = [one.strip() for one in body.split(";")[:-1]]
     body = "".join(
@@ -285,15 +305,15 @@ def for_postgresql(trigger):
     yield f"CREATE TRIGGER {name} {event} FOR EACH ROW {when}EXECUTE FUNCTION {name}();\n"
 
 
-def write_copies(form, rows, folder):
+def write_copies(form: Form, rows: int, folder: pathlib.Path) -> dict[str, str]:
     """A file of rows for each table, in the order in which they are loaded."""
-    lines = {}
+    lines: dict[str, list[str]] = {}
     for statement, numbers in form.loaded(rows):
         lines.setdefault(statement.split()[2], []).append(",".join(map(str, numbers)) + "\n")
-    return {name: written(f"{folder}/{name}", rows_of) for name, rows_of in lines.items()}
+    return {name: written(folder / name, rows_of) for name, rows_of in lines.items()}
 
 
-def tables_of_postgresql(form, copies):
+def tables_of_postgresql(form: Form, copies: Mapping[str, str]) -> Iterator[str]:
     """New tables with their rows, the side table and the triggers; a mark before the rows, and one behind all."""
     yield "SET client_min_messages = error;\nDROP SCHEMA public CASCADE;\nCREATE SCHEMA public;\n"
     yield "SELECT pg_backend_pid() AS backend \\gset\n\\setenv BACKEND :backend\n"
@@ -306,26 +326,33 @@ def tables_of_postgresql(form, copies):
     yield MARK
 
 
-def numbered(statement):
+def numbered(statement: str) -> str:
     """A statement with $1, $2 .. in the places of its values."""
     places = iter(range(1, 10))
     return re.sub(r"\?", lambda _: f"${next(places)}", statement)
 
 
-def played(server, folder, lines, stops=True):
-    """Plays lines by psql: seconds by the clock and of the backend's processor between two marks, and the answers."""
-    path, answers = written(f"{folder}/psql", lines), f"{folder}/answers"
+class Span(typing.NamedTuple):
+    """Seconds by the clock, and of the backend's processor."""
+
+    clock: float
+    used: float
+
+
+def played(server: servers.Server, folder: pathlib.Path, lines: Iterable[str],
+           stops: bool = True) -> tuple[list[Span], str]:
+    """Plays lines by psql: what it takes from each mark to the next, and the answers."""
+    path, answers = written(folder / "psql", lines), folder / "answers"
     command = [f"{server.programs}/psql", "-XAt", "-h", server.folder, "-U", "postgres", "-d", "postgres"]
-    command += ["-v", f"ON_ERROR_STOP={int(stops)}", "-o", answers, "-f", path]
-    told = None if stops else subprocess.DEVNULL
-    done = subprocess.run(command, check=True, stdout=subprocess.PIPE, stderr=told, text=True)
-    numbers = [float(word) for word in done.stdout.split()]
-    marks = [(clock, used / 1e9) for used, clock in zip(numbers[::2], numbers[1::2])]
-    between = [(later[0] - one[0], later[1] - one[1]) for one, later in zip(marks, marks[1:])]
-    return between, pathlib.Path(answers).read_text()
+    command += ["-v", f"ON_ERROR_STOP={int(stops)}", "-o", str(answers), "-f", path]
+    told = output_of(command, stderr=None if stops else subprocess.DEVNULL, timeout=None)
+    numbers = [float(word) for word in told.split()]
+    marks = [Span(clock, used / 1e9) for used, clock in zip(numbers[::2], numbers[1::2])]
+    between = [Span(later.clock - one.clock, later.used - one.used) for one, later in zip(marks, marks[1:])]
+    return between, answers.read_text()
 
 
-def totals_differ(form):
+def totals_differ(form: Form) -> Iterator[str]:
     """A query that lists a word where the totals are not those of the rows."""
     if form.condition:
         kept, counted = form.totals
@@ -333,7 +360,7 @@ def totals_differ(form):
         yield f"SELECT 'DIFFER' WHERE EXISTS {one} OR EXISTS {other};\n"
 
 
-def works_of_postgresql(form, rows):
+def works_of_postgresql(form: Form, rows: int) -> Iterator[str]:
     """Both works, each between two marks."""
     prepared = {"comes": form.insert, "changes": form.update, "goes": form.delete, "alone": update_of(form)}
     yield from (f"PREPARE {name} AS {numbered(one)};\n" for name, one in prepared.items())
@@ -351,7 +378,8 @@ def works_of_postgresql(form, rows):
     yield from totals_differ(form)
 
 
-def of_postgresql(server, copies, form, rows, folder, figures):
+def of_postgresql(server: servers.Server, copies: Mapping[str, str], form: Form, rows: int, folder: pathlib.Path,
+                  figures: Figures) -> None:
     """Figures of both works, and of loading."""
     lines = [*tables_of_postgresql(form, copies), *works_of_postgresql(form, rows)]
     between, answers = played(server, folder, lines)
@@ -360,14 +388,15 @@ def of_postgresql(server, copies, form, rows, folder, figures):
     if tags["UPDATE 1"] != rounds + transactions or tags["DELETE 1"] != rounds or tags["DIFFER"]:
         sys.exit(f"{form.name}: PostgreSQL has not answered as it has to")
     loading, _, statement, _, transaction = between
-    figures["PostgreSQL loading"].append(loading[1])
-    figures["PostgreSQL bytes"].append(int(re.search(r"^BYTES\|(\d+)$", answers, re.M)[1]))
+    figures["PostgreSQL loading"].append(loading.used)
+    (size,) = re.findall(r"^BYTES\|(\d+)$", answers, re.M)
+    figures["PostgreSQL bytes"].append(int(size))
     for work, count, times in (("statement", 3 * rounds, statement), ("transaction", transactions, transaction)):
         for column, seconds in zip((CLOCK, BACKEND), times):
             figures[work, column].append(seconds / count * 1e6)
 
 
-def check_postgresql(server, form, folder):
+def check_postgresql(server: servers.Server, form: Form, folder: pathlib.Path) -> None:
     """What breaks the rule is refused by PostgreSQL, and nothing else."""
     lines = [*tables_of_postgresql(form, write_copies(form, SMALL, folder))]
     lines += [f"{text(statement, numbers)}\n\\qecho STATE :SQLSTATE\n" for statement, numbers, _ in form.tries]
@@ -380,7 +409,7 @@ def check_postgresql(server, form, folder):
 # -- threads
 
 
-def arithmetic(count):
+def arithmetic(count: int) -> float:
     """Hashes a second on so many threads of this process: each hashes on its own, and holds no lock of Python's."""
     words = ("sha256", b"skewguard", b"salt", HASHES // count)
     workers = [threading.Thread(target=hashlib.pbkdf2_hmac, args=words) for _ in range(count)]
@@ -392,7 +421,7 @@ def arithmetic(count):
     return HASHES / (time.perf_counter() - start)
 
 
-def of_threads(program, repetitions, folder):
+def of_threads(program: Path, repetitions: int, folder: pathlib.Path) -> Figures:
     """Commits a second on disjoint keys, and hashes a second, by numbers of threads."""
     figures = Figures()
     for _ in range(repetitions):
@@ -405,10 +434,11 @@ def of_threads(program, repetitions, folder):
 # -- all of them
 
 
-def measure(program, server, driver, form, rows, repetitions, folder):
+def measure(program: Path, server: servers.Server | None, driver: pathlib.Path | None, form: Form, rows: int,
+            repetitions: int, folder: pathlib.Path) -> Figures:
     """The figures of one form and size, by what they are of, in each repetition."""
     files, small = Files(folder, form, rows), small_files(folder, form)
-    copies, figures = write_copies(form, rows, folder) if server else None, Figures()
+    copies, figures = write_copies(form, rows, folder) if server else {}, Figures()
     for _ in range(repetitions):
         of_skewguard(program, files, small, form, rows, figures)
         of_sqlite(driver, form, rows, folder, figures)
@@ -418,12 +448,14 @@ def measure(program, server, driver, form, rows, repetitions, folder):
     return figures
 
 
-def small_files(folder, form):
-    os.makedirs(f"{folder}/small", exist_ok=True)
-    return Files(f"{folder}/small", form, SMALL)
+def small_files(folder: pathlib.Path, form: Form) -> Files:
+    """The files of a form where the number of rows does not count."""
+    place = folder / "small"
+    place.mkdir(exist_ok=True)
+    return Files(place, form, SMALL)
 
 
-def tell(form, rows, figures):
+def tell(form: Form, rows: int, figures: Figures) -> None:
     """The least and the greatest of each figure, in one line."""
     ends = []
     for name, all_of_it in figures.items():
@@ -432,7 +464,8 @@ def tell(form, rows, figures):
     print(f"{form.name}, {rows:,} rows; {'; '.join(ends)}", file=sys.stderr, flush=True)
 
 
-def print_works(found):
+def print_works(found: Found) -> None:
+    """A table of each work."""
     for work in WORKS:
         rows = [
             [name, f"{size:,}", *(digits(figures.middle((work, column))) for column in COLUMNS)]
@@ -441,7 +474,7 @@ def print_works(found):
         table([f"us a {work}", "rows", *COLUMNS], rows)
 
 
-def all_rows(form, rows):
+def all_rows(form: Form, rows: int) -> int:
     """How many rows are loaded, of all tables."""
     return rows + (rows // 10 if SHIFTS in form.tables else 0)
 
@@ -449,13 +482,14 @@ def all_rows(form, rows):
 BYTES = ("text", "peak", "resident", "resident without text", "SQLite bytes", "PostgreSQL bytes")
 
 
-def row_bytes(form, rows, figures, name):
+def row_bytes(form: Form, rows: int, figures: Figures, name: str) -> float | None:
     """Bytes of one of these kinds for a row of all that are loaded."""
     count = figures.middle(name)
     return None if count is None else count / all_rows(form, rows)
 
 
-def print_loading(found, forms):
+def print_loading(found: Found, forms: Forms) -> None:
+    """The table of loading and of memory."""
     heads = ["loading", "rows", "skewguard, s", "SQLite, the same text, s", "PostgreSQL, COPY, backend, s"]
     heads += ["bytes a row: text of DEFS", "skewguard, peak", "after loading", "without the text"]
     heads += ["SQLite", "PostgreSQL"]
@@ -467,11 +501,13 @@ def print_loading(found, forms):
     table(heads, rows)
 
 
-def growth(found, name, sizes, work, column):
-    return exponent([(size, found[name, size].middle((work, column))) for size in sizes])
+def growth(found: Found, name: str, sizes: Sequence[int], work: str, column: str) -> float | None:
+    """By which power the time of a work grows with the rows."""
+    return exponent((size, found[name, size].middle((work, column))) for size in sizes)
 
 
-def print_growth(found, forms, sizes):
+def print_growth(found: Found, forms: Forms, sizes: Sequence[int]) -> None:
+    """The table of growth."""
     heads = [f"exponent of growth, {sizes[0]:,} to {sizes[-1]:,} rows", "of a"]
     rows = [
         [name, work, *(power(growth(found, name, sizes, work, column)) for column in COLUMNS)]
@@ -481,7 +517,8 @@ def print_growth(found, forms, sizes):
     table([*heads, *COLUMNS], rows)
 
 
-def print_threads(of_all):
+def print_threads(of_all: Figures) -> None:
+    """The table of threads."""
     rows = []
     for what, unit in (("commits", "skewguard, commits a second"), ("hashes", "arithmetic, hashes a second")):
         cells = [digits(of_all.middle((what, count)), 3) for count in THREADS]
@@ -489,49 +526,57 @@ def print_threads(of_all):
     table(["disjoint keys", *(f"threads: {count}" for count in THREADS), "how many times as many"], rows)
 
 
-def speedup(of_all, what):
-    least, most = (of_all.middle((what, count)) for count in (THREADS[0], THREADS[-1]))
+def speedup(of_all: Figures, what: str) -> float:
+    """How many times as much the most threads do as the fewest."""
+    least, most = (of_all.median((what, count)) for count in (THREADS[0], THREADS[-1]))
     return most / least
 
 
-def verdict(is_met):
+def verdict(is_met: bool | None) -> str:
+    """Whether a goal is met; a dash where that can't be told."""
     return "-" if is_met is None else "met" if is_met else "**missed**"
 
 
-def listed(numbers, unit=""):
+def ratio(one: float | None, other: float | None) -> float | None:
+    """How many times as much one is as another; None where one is missing, or nothing."""
+    return one / other if one and other else None
+
+
+def listed(numbers: Sequence[float | None], unit: str = "") -> str:
     """Numbers with a unit behind the last; a dash where there is none at all."""
     return ", ".join(digits(number) for number in numbers) + unit if any(numbers) else "-"
 
 
-def beside_sqlite(found, forms, sizes):
+def beside_sqlite(found: Found, forms: Forms, sizes: Sequence[int]) -> Iterator[list[str]]:
     """Rows of the goals that are told beside SQLite; a goal is met if it is at each size."""
     for goal, work, least in BESIDE_SQLITE:
         for how, *sides in PAIRS:
             for name in forms:
                 own, lite, other = ([found[name, size].middle((work, side)) for size in sizes] for side in sides)
-                ratios = [theirs and theirs / ours for ours, theirs in zip(own, lite)]
-                met = verdict(None if None in ratios else all(ratio >= least for ratio in ratios))
+                ratios = [ratio(theirs, ours) for ours, theirs in zip(own, lite)]
+                told = [each for each in ratios if each is not None]
+                met = verdict(min(told) >= least if len(told) == len(ratios) else None)
                 times = [listed(side, " us") for side in (own, lite, other)]
                 yield [goal, f"{name}, {how}", *times, listed(ratios), met]
 
 
-def of_loading(found, forms, rows):
+def of_loading(found: Found, forms: Forms, rows: int) -> Iterator[list[str]]:
     """Rows of the goals of loading and memory. Fewer rows than the goals speak of are not judged."""
     sides = ("loading", "SQLite loading", "PostgreSQL loading")
     for name in forms:
         own, lite, other = (found[name, rows].middle(side) for side in sides)
-        met = verdict(own < LOADED_SECONDS if rows == LOADED_ROWS else None)
+        met = verdict(own < LOADED_SECONDS if own and rows == LOADED_ROWS else None)
         goal = f"{LOADED_ROWS:,} rows loaded in under {LOADED_SECONDS} s (figures at {rows:,})"
-        yield [goal, name, *(listed([side], " s") for side in (own, lite, other)), digits(lite / own), met]
+        yield [goal, name, *(listed([side], " s") for side in (own, lite, other)), digits(ratio(lite, own)), met]
     sides = ("resident without text", "SQLite bytes", "PostgreSQL bytes")
     for name, form in forms.items():
         own, lite, other = (row_bytes(form, rows, found[name, rows], side) for side in sides)
-        met = verdict(own <= ROW_BYTES if rows == LOADED_ROWS else None)
+        met = verdict(own <= ROW_BYTES if own and rows == LOADED_ROWS else None)
         goal = f"at most {ROW_BYTES} bytes a row after loading, without the text (figures at {rows:,})"
-        yield [goal, name, digits(own, 3), digits(lite, 3), digits(other, 3), digits(lite / own), met]
+        yield [goal, name, digits(own, 3), digits(lite, 3), digits(other, 3), digits(ratio(lite, own)), met]
 
 
-def of_growth(found, forms, sizes):
+def of_growth(found: Found, forms: Forms, sizes: Sequence[int]) -> Iterator[list[str]]:
     """Rows of the goal of growth."""
     for how, *sides in PAIRS:
         for name in forms:
@@ -541,14 +586,16 @@ def of_growth(found, forms, sizes):
             yield [goal, f"{name}, {how}", power(own), power(lite), power(other), "", met]
 
 
-def of_speedup(of_all):
+def of_speedup(of_all: Figures) -> list[str]:
+    """The row of the goal of threads."""
     own, other = (speedup(of_all, what) for what in ("commits", "hashes"))
     met = verdict(own >= SPEEDUP if len(os.sched_getaffinity(0)) >= THREADS[-1] else None)
     goal = f"{THREADS[-1]} threads on disjoint keys commit {SPEEDUP} times as much as one"
     return [goal, "by group", digits(own), f"arithmetic: {digits(other)}", "", digits(other / own), met]
 
 
-def print_all(found, of_all, forms, sizes):
+def print_all(found: Found, of_all: Figures | None, forms: Forms, sizes: Sequence[int]) -> None:
+    """All tables, that of the goals first."""
     goals = [*beside_sqlite(found, forms, sizes), *of_loading(found, forms, sizes[-1]), *of_growth(found, forms, sizes)]
     goals += [of_speedup(of_all)] if of_all else []
     told = ", ".join(f"{size:,}" for size in sizes)
@@ -561,9 +608,9 @@ def print_all(found, of_all, forms, sizes):
         print_threads(of_all)
 
 
-def main():
-    words = argparse.ArgumentParser(description=__doc__, formatter_class=argparse.RawDescriptionHelpFormatter)
-    words.add_argument("--program", help="the program skewguard; without it `rt run` builds it")
+def main() -> None:
+    words = parser_of(__doc__, whole=True)
+    take_program(words)
     words.add_argument("--rows", default="10000,100000,1000000", help="sizes of the tables, each at least 20")
     words.add_argument("--repetitions", default="5", help="one number, or one for each size")
     words.add_argument("--forms", default=",".join(FORM_NAMES), help="some of the forms, by name, with commas between")
@@ -574,10 +621,11 @@ def main():
     counts = numbers_of(asked.repetitions)
     repetitions = dict(zip(sizes, counts * len(sizes) if len(counts) == 1 else counts))
     forms = {name: form for name in asked.forms.split(",") for form in FORMS if form.name == name}
-    program, memory = asked.program or built(), "/dev/shm" if os.path.isdir("/dev/shm") else None
+    program = program_of(asked)
     has_server = not asked.without_postgresql and servers.server_programs()
-    found, of_all = {}, None
-    with tempfile.TemporaryDirectory() as folder, tempfile.TemporaryDirectory(dir=memory) as data:
+    found: dict[tuple[str, int], Figures] = {}
+    of_all: Figures | None = None
+    with temporary_folder() as folder, temporary_folder(memory_folder()) as data:
         server, driver = servers.Server(data) if has_server else None, driver_in_c(folder)
         try:
             version = server.run("postgres", "--version").strip() if server else "no PostgreSQL"
@@ -585,16 +633,18 @@ def main():
             for form in forms.values():
                 if form.condition:
                     check_refusals(program, form, folder)
-                    check_postgresql(server, form, folder) if server else None
+                    if server:
+                        check_postgresql(server, form, folder)
             for form in forms.values():
                 for rows in sizes:
                     found[form.name, rows] = measure(program, server, driver, form, rows, repetitions[rows], folder)
                     tell(form, rows, found[form.name, rows])
         finally:
-            server.stop() if server else None
+            if server:
+                server.stop()
         if not asked.without_threads:
             of_all = of_threads(program, counts[0], folder)
-    print(f"load at the end {os.getloadavg()[0]:.1f}")
+    load_at_end()
     print_all(found, of_all, forms, sizes)
 
 

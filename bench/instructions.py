@@ -9,28 +9,19 @@ one UPDATE and COMMIT, each by key all over the table; what a replay of loading 
 texts and writing the report are in it.
 """
 
-import argparse
 import os
-import re
-import subprocess
+import pathlib
 import sys
-import tempfile
+from collections.abc import Iterable, Iterator
 
-from replays import loads, table, written
+from replays import Path, instructions, loads, parser_of, table, temporary_folder, words_of_replay, written
 from statements import ACCT, FORMS, Form, text, valued
 
 LEAST = Form("least", [ACCT], "NOT EXISTS (SELECT OWNER FROM ACCT GROUP BY OWNER HAVING MIN(BAL) < 0)")
 KINDS = ("INSERT", "UPDATE", "DELETE")
 
 
-def instructions(program, definitions, script):
-    """The instructions of a replay."""
-    command = ["valgrind", "--tool=callgrind", "--callgrind-out-file=/dev/null", program, "replay", definitions, script]
-    ran = subprocess.run(command, stdout=subprocess.DEVNULL, stderr=subprocess.PIPE, text=True, check=True)
-    return int(re.search(r"Collected : (\d+)", ran.stderr)[1])
-
-
-def scripts(form, rows, count):
+def scripts(form: Form, rows: int, count: int) -> Iterator[Iterable[str]]:
     """For each kind of statement so many in one transaction, behind those before it; and so many transactions."""
     rounds = [form.round(number, rows) for number in range(count)]
     kinds = [[f"A: {text(*one[at])}\n" for one in rounds] for at in range(3)]
@@ -42,21 +33,21 @@ def scripts(form, rows, count):
     yield loads.transactions(valued(form.update, (form.another(key // 2, rows), key)) for key in keys)
 
 
-def counted(program, form, rows, count, folder):
+def counted(program: Path, form: Form, rows: int, count: int, folder: pathlib.Path) -> list[float]:
     """Instructions of an INSERT, an UPDATE, a DELETE and of a transaction of one UPDATE."""
     definitions = written(f"{folder}/defs", form.definitions(rows))
     script = f"{folder}/script"
     totals = []
     for lines in scripts(form, rows, count):
-        totals.append(instructions(program, definitions, written(script, lines)))
+        totals.append(instructions(words_of_replay(program, definitions, written(script, lines))))
     none, insert, update, delete, transactions = totals
     return [(after - before) / count for before, after in zip((none, insert, update), (insert, update, delete))] + [
         (transactions - none) / count
     ]
 
 
-def main():
-    words = argparse.ArgumentParser(description=__doc__, formatter_class=argparse.RawDescriptionHelpFormatter)
+def main() -> None:
+    words = parser_of(__doc__, whole=True)
     words.add_argument("programs", nargs="+", metavar="PROGRAM")
     words.add_argument("--rows", type=int, default=10_000)
     words.add_argument("--statements", type=int, default=2_000)
@@ -64,7 +55,7 @@ def main():
     asked = words.parse_args()
     forms = [one for one in [*FORMS, LEAST] if not asked.forms or one.name in asked.forms.split(",")]
     lines = []
-    with tempfile.TemporaryDirectory() as folder:
+    with temporary_folder() as folder:
         for form in forms:
             for program in asked.programs:
                 program = os.path.abspath(program)

@@ -11,47 +11,46 @@ printed as it stands there, of medians. Each answer of the shell is looked at. T
 made without a sync, line by line as the shell writes them, and a shell without events is timed on it.
 """
 
-import argparse
+import functools
 import os
 import pathlib
 import statistics
-import subprocess
 import sys
-import tempfile
 import time
+from collections.abc import Callable
 
-sys.path.insert(0, str(pathlib.Path(__file__).resolve().parents[1] / "tools"))
-
-from harness import loads
-from harness.journals import lines_of, spelled
-from harness.programs import PROGRAM
+from replays import (
+    PROGRAM, Answer, Figures, Path, Word, lines_of, loads, parser_of, run, spelled, temporary_folder, written)
 
 ROWS = 1000
 SHARED = 4, 16, 1000  # so many commits share a sync
 
 
-def events(commits):
+def events(commits: int) -> str:
+    """So many transactions of one session."""
     keys = (at * 7 % ROWS for at in range(commits))
     return "".join(f"BEGIN; UPDATE ACCT SET BAL = BAL + 1 WHERE ID = {key}; COMMIT;\n" for key in keys)
 
 
-def run_shell(program, folder, script, *options):
-    words = [program, "shell", folder / "defs.sql", *options]
-    return subprocess.run(words, input=script, capture_output=True, check=True)
+def run_shell(program: Path, folder: pathlib.Path, script: str, *options: Word) -> Answer:
+    """A shell over the accounts, which has to end well."""
+    answer = run([program, "shell", folder / "defs.sql", *options], script, timeout=None)
+    return answer if not answer.status else sys.exit(f"the shell has ended with {answer.status}: {answer.error}")
 
 
-def timed_shell(program, folder, commits, *options):
+def timed_shell(program: Path, folder: pathlib.Path, commits: int, *options: Word) -> float:
     """Seconds of a shell that answers so many transactions."""
-    script = events(commits).encode()
+    script = events(commits)
     began = time.perf_counter()
     done = run_shell(program, folder, script, *options)
     seconds = time.perf_counter() - began
-    if done.stdout.count(b"ME: COMMIT ") != commits:
+    if done.output.count("ME: COMMIT ") != commits:
         sys.exit("not each COMMIT was accepted")
     return seconds
 
 
-def timed_sqlite(folder, commits, synchronous):
+def timed_sqlite(folder: pathlib.Path, commits: int, synchronous: str) -> float:
+    """The same of SQLite, with this setting."""
     path = folder / "sqlite.db"
     for old in folder.glob("sqlite.db*"):
         old.unlink()
@@ -66,7 +65,8 @@ def timed_sqlite(folder, commits, synchronous):
     return seconds
 
 
-def timed_syncs(folder, commits):
+def timed_syncs(folder: pathlib.Path, commits: int) -> float:
+    """The same of nothing but writes, each with its sync."""
     path = folder / "bare"
     path.write_bytes(bytes(100 * commits))
     with open(path, "r+b", buffering=0) as file:
@@ -78,7 +78,7 @@ def timed_syncs(folder, commits):
         return time.perf_counter() - began
 
 
-def timed_opening(program, folder, commits):
+def timed_opening(program: Path, folder: pathlib.Path, commits: int) -> float:
     """Seconds in which a journal of so many commits is opened."""
     path = folder / "long"
     path.unlink(missing_ok=True)
@@ -95,45 +95,47 @@ def timed_opening(program, folder, commits):
         lines.append(spelled(str(field).encode() for field in fields))
     path.write_bytes(held[:lines_of(held)[-1].end] + b"".join(lines) + bytes(1 << 16))
     began = time.perf_counter()
-    run_shell(program, folder, b"", "--journal", path)
+    run_shell(program, folder, "", "--journal", path)
     return time.perf_counter() - began
 
 
-def main():
-    parser = argparse.ArgumentParser(description=__doc__.split("\n", 1)[0])
-    parser.add_argument("program", nargs="?", default=PROGRAM)
+def main() -> None:
+    parser = parser_of(__doc__)
+    parser.add_argument("program", nargs="?", default=str(PROGRAM))
     parser.add_argument("--commits", type=int, default=3000)
     parser.add_argument("--open", type=int, default=100_000)
     parser.add_argument("--repetitions", type=int, default=5)
     parser.add_argument("--folder", default=None)
     words = parser.parse_args()
-    with tempfile.TemporaryDirectory(dir=words.folder) as made:
-        folder = pathlib.Path(made)
-        (folder / "defs.sql").write_text("".join(loads.ledger(ROWS)))
-        sides = {
-            "`shell --journal`": lambda: timed_fresh(words.program, folder, words.commits),
-            **{f"`shell --journal`, up to {most} commits a sync": shared(words, folder, most) for most in SHARED},
-            "`shell`, in memory alone": lambda: timed_shell(words.program, folder, words.commits),
-            "SQLite, WAL, FULL": lambda: timed_sqlite(folder, words.commits, "FULL"),
-            "SQLite, WAL, NORMAL": lambda: timed_sqlite(folder, words.commits, "NORMAL"),
-            "a bare fdatasync of 80 bytes": lambda: timed_syncs(folder, words.commits),
-        }
-        seconds = {side: [] for side in sides}
+    with temporary_folder(words.folder) as folder:
+        written(folder / "defs.sql", loads.ledger(ROWS))
+        sides, seconds = sides_of(words.program, folder, words.commits), Figures()
         for _ in range(words.repetitions):
-            for side, run in sides.items():
-                seconds[side].append(run())
+            for side, timed in sides.items():
+                seconds[side].append(timed())
         print("| one session, a sync each but where more share one | commits a second |\n|---|---|")
-        for side, each in seconds.items():
-            print(f"| {side} | {words.commits / statistics.median(each):,.0f} |")
+        for side in sides:
+            print(f"| {side} | {words.commits / seconds.median(side):,.0f} |")
         opening = statistics.median(timed_opening(words.program, folder, words.open) for _ in range(words.repetitions))
         print(f"\nA journal of {words.open:,} commits over {ROWS:,} rows is opened in {opening:.2f} s.")
 
 
-def shared(words, folder, most):
-    return lambda: timed_fresh(words.program, folder, words.commits, "--sync-every", str(most))
+def sides_of(program: Path, folder: pathlib.Path, commits: int) -> dict[str, Callable[[], float]]:
+    """What is held against what: for each side what gives the seconds of so many transactions."""
+    fresh = functools.partial(timed_fresh, program, folder, commits)
+    shared = {f"`shell --journal`, up to {most} commits a sync": functools.partial(fresh, "--sync-every", most)
+        for most in SHARED}
+    return {
+        "`shell --journal`": fresh,
+        **shared,
+        "`shell`, in memory alone": lambda: timed_shell(program, folder, commits),
+        "SQLite, WAL, FULL": lambda: timed_sqlite(folder, commits, "FULL"),
+        "SQLite, WAL, NORMAL": lambda: timed_sqlite(folder, commits, "NORMAL"),
+        "a bare fdatasync of 80 bytes": lambda: timed_syncs(folder, commits),
+    }
 
 
-def timed_fresh(program, folder, commits, *options):
+def timed_fresh(program: Path, folder: pathlib.Path, commits: int, *options: Word) -> float:
     """Seconds of a shell that makes a journal and keeps so many transactions in it."""
     (folder / "journal").unlink(missing_ok=True)
     return timed_shell(program, folder, commits, "--journal", folder / "journal", *options)

@@ -29,38 +29,72 @@ Each measurement is a process of its own; the sides take turns. Medians count, o
 of that of the processor. Each answer is looked at: a statement that did not change one row ends the run.
 """
 
-import argparse
+from __future__ import annotations
+
 import os
 import pathlib
-import re
 import sqlite3
 import statistics
 import struct
-import subprocess
 import sys
-import tempfile
 import threading
 import time
-import zipfile
+import typing
+from collections.abc import Callable, Iterator, Mapping, Sequence
 
-from replays import TOP, digits, machine, table, written
-from statements import FORMS, text
+from replays import (
+    HEADER_FOLDER, PYTHON, SONAME, TOP, Word, carry_out, digits, instructions, library_in, linked, load_at_end,
+    machine, numbers_of, output_of, packed, parser_of, table, temporary_folder, unpacked, written)
+from statements import FORMS, Form, text
+
+if typing.TYPE_CHECKING:
+    import skewguard
 
 LANGUAGES = ("C", "Python", "ctypes")
 SIDES = ("skewguard", "at_once", "sqlite")
+
+Values = tuple[int, int]  # a new value, and the key of the row that gets it
+
+
+class Command(typing.NamedTuple):
+    """What runs from a language, and what its environment has."""
+
+    words: list[Word]
+    more: dict[str, str]
+
+
+class Timed(typing.NamedTuple):
+    """Microseconds a transaction, on the clock and of the processor, and how many COMMITs were refused for others."""
+
+    passed: float
+    used: float
+    refused: float
+
+
+class Asked(typing.NamedTuple):
+    """What the command line asks for."""
+
+    library: pathlib.Path | None
+    rows: list[int]
+    threads: list[int]
+    forms: list[str]
+    transactions: int
+    repetitions: int
+    instructions: bool
+    many: bool
 
 # How a statement is run with many values, and how many.
 WAYS = ("execute", "run_all", "executemany", "sqlite")
 MANY = 1000
 
 
-def update_of(form):
+def update_of(form: Form) -> str:
     """The statement that each transaction runs: it changes whether a person is on call, or a balance."""
     column = "ONCALL" if form.changed == "DUTY" else "BAL"
     return f"UPDATE {form.changed} SET {column} = ? WHERE ID = ?"
 
 
-def changes_of(form, rows, count):
+def changes_of(form: Form, rows: int, count: int) -> Iterator[Values]:
     """The values of each transaction: a new one, and the key of a row, anywhere in the table.
 
     The first person of each shift stays on call, so that no rule is broken, and each change is one.
@@ -72,35 +106,41 @@ def changes_of(form, rows, count):
         yield turn % 2 if form.changed == "DUTY" else 1000 + turn, 2 * at
 
 
-def write_setups(form, rows, folder):
+def write_setups(form: Form, rows: int, folder: pathlib.Path) -> dict[str, str]:
     """The files that make the tables: definitions for skewguard; rows, side tables and triggers for SQLite."""
     loaded = [f"{text(*one)}\n" for one in form.loaded(rows)]
     after = [f"{one};\n" for one in (*form.side, *form.triggers)]
-    return {
-        "skewguard": (own := written(f"{folder}/skewguard", form.definitions(rows))),
-        "at_once": own,
-        "sqlite": written(f"{folder}/sqlite", [*form.tables, "BEGIN;\n", *loaded, "COMMIT;\n", *after, "ANALYZE;\n"]),
-    }
+    own = written(folder / "skewguard", form.definitions(rows))
+    other = written(folder / "sqlite", [*form.tables, "BEGIN;\n", *loaded, "COMMIT;\n", *after, "ANALYZE;\n"])
+    return {"skewguard": own, "at_once": own, "sqlite": other}
 
 
-def write_changes(form, rows, count, folder):
-    path = pathlib.Path(folder) / "changes"
+def write_changes(form: Form, rows: int, count: int, folder: pathlib.Path) -> pathlib.Path:
+    """The file with the values of each transaction."""
+    path = folder / "changes"
     path.write_bytes(b"".join(struct.pack("<qq", *one) for one in changes_of(form, rows, count)))
-    return str(path)
+    return path
 
 
 # -- from Python; each run is a process of this file
 
 
-def in_skewguard(setup, update):
-    """What makes a change in skewguard, and counts how often others were in its way."""
+def opened(setup: str) -> skewguard.Manager:
+    """A manager over definitions, by the implementation that is wanted."""
     import skewguard
 
     if skewguard.IMPLEMENTATION != os.environ["WANTED"]:
         raise ValueError(f"this is the implementation {skewguard.IMPLEMENTATION}")
-    manager = skewguard.open(pathlib.Path(setup).read_text())
+    return skewguard.open(pathlib.Path(setup).read_text())
 
-    def change(values):
+
+def in_skewguard(setup: str, update: str) -> Callable[[Values], int]:
+    """What makes a change in skewguard, and counts how often others were in its way."""
+    import skewguard
+
+    manager = opened(setup)
+
+    def change(values: Values) -> int:
         refused = 0
         while True:
             try:
@@ -114,15 +154,11 @@ def in_skewguard(setup, update):
     return change
 
 
-def at_once(setup, update):
+def at_once(setup: str, update: str) -> Callable[[Values], int]:
     """What makes a change in skewguard by one call."""
-    import skewguard
+    manager = opened(setup)
 
-    if skewguard.IMPLEMENTATION != os.environ["WANTED"]:
-        raise ValueError(f"this is the implementation {skewguard.IMPLEMENTATION}")
-    manager = skewguard.open(pathlib.Path(setup).read_text())
-
-    def change(values):
+    def change(values: Values) -> int:
         if manager.run_transaction([(update, values)], retry=0)[1][0].count != 1:
             raise ValueError("an UPDATE was not answered as it has to be")
         return 0
@@ -130,13 +166,13 @@ def at_once(setup, update):
     return change
 
 
-def in_sqlite(setup, update):
+def in_sqlite(setup: str, update: str) -> Callable[[Values], int]:
     """What makes a change in SQLite."""
     base = sqlite3.connect(":memory:", isolation_level=None, check_same_thread=False)
     base.executescript(pathlib.Path(setup).read_text())
     lock, execute = threading.Lock(), base.execute
 
-    def change(values):
+    def change(values: Values) -> int:
         with lock:
             execute("BEGIN")
             if execute(update, values).rowcount != 1:
@@ -147,13 +183,14 @@ def in_sqlite(setup, update):
     return change
 
 
-def run_in_python(side, setup, update, path, threads):
+def run_in_python(side: str, setup: str, update: str, path: str, threads: int) -> None:
     """Prints what bench/languages.c prints."""
     change = {"skewguard": in_skewguard, "at_once": at_once, "sqlite": in_sqlite}[side](setup, update)
-    changes = list(struct.iter_unpack("<qq", pathlib.Path(path).read_bytes()))
-    refused, faults = [], []
+    changes = [(value, key) for value, key in struct.iter_unpack("<qq", pathlib.Path(path).read_bytes())]
+    refused: list[int] = []
+    faults: list[BaseException] = []
 
-    def run(part):
+    def run(part: Sequence[Values]) -> None:
         try:
             refused.append(sum(change(values) for values in part))
         except BaseException as fault:
@@ -171,34 +208,43 @@ def run_in_python(side, setup, update, path, threads):
     print(f"{passed:.6f} {used:.6f} {sum(refused)}")
 
 
-def inserted(way):
+def inserted(way: str) -> Callable[[], None]:
     """What inserts many rows in one transaction, which is rolled back."""
     create, insert = "CREATE TABLE T (ID INTEGER PRIMARY KEY, N INTEGER)", "INSERT INTO T VALUES (?, ?)"
     rows = [(place, 7 * place) for place in range(MANY)]
     if way == "sqlite":
-        connection = sqlite3.connect(":memory:")
-        connection.execute(create)
-        connection.commit()
-        return lambda: (connection.executemany(insert, rows), connection.rollback())
-    import skewguard
+        base = sqlite3.connect(":memory:")
+        base.execute(create)
+        base.commit()
+
+        def by_sqlite() -> None:
+            base.executemany(insert, rows)
+            base.rollback()
+
+        return by_sqlite
     from skewguard import dbapi
 
     connection = dbapi.connect(f"{create};")
     transaction = connection.manager.transaction
 
-    def by_call(run):
+    def by_call(run: Callable[[skewguard.Transaction], object]) -> None:
         with transaction() as own:
             run(own)
             own.rollback()
 
-    return {
+    def by_cursor() -> None:
+        connection.cursor().executemany(insert, rows)
+        connection.rollback()
+
+    ways = {
         "execute": lambda: by_call(lambda own: [own.execute(insert, row) for row in rows]),
         "run_all": lambda: by_call(lambda own: own.run_all(insert, rows)),
-        "executemany": lambda: (connection.cursor().executemany(insert, rows), connection.rollback()),
-    }[way]
+        "executemany": by_cursor,
+    }
+    return ways[way]
 
 
-def run_many(way):
+def run_many(way: str) -> None:
     """Prints the microseconds a statement, of the clock: the least of twenty transactions."""
     insert, times = inserted(way), []
     for _ in range(20):
@@ -208,17 +254,13 @@ def run_many(way):
     print(f"{1e6 * min(times) / MANY:.3f}")
 
 
-def print_many(commands, repetitions):
+def print_many(commands: Mapping[str, Command], repetitions: int) -> None:
     """One statement with many values, by each way."""
     rows = []
     for language in ("Python", "ctypes"):
-        (python, *_), known = commands[language]
+        (python, *_), more = commands[language]
         words = [python, os.path.abspath(__file__), "--run-many"]
-        known = os.environ | known
-        done = [
-            [float(subprocess.run([*words, way], check=True, capture_output=True, env=known).stdout) for way in WAYS]
-            for _ in range(repetitions)
-        ]
+        done = [[float(output_of([*words, way], more=more)) for way in WAYS] for _ in range(repetitions)]
         rows.append([language, *(digits(time) for time in medians(done))])
     table(["from", *(f"{way}, us a row" for way in WAYS)], rows)
 
@@ -226,106 +268,77 @@ def print_many(commands, repetitions):
 # -- all of them
 
 
-def linked(built, folder):
-    """A folder in which the library has the names that compilers and programs look for; where none is built, it is."""
-    if not built:
-        built = f"{folder}/library"
-        os.mkdir(built)
-        subprocess.run([sys.executable, f"{TOP}/tools/c_library.py", built], check=True, stdout=subprocess.DEVNULL)
-    place = pathlib.Path(folder) / "linked"
-    place.mkdir()
-    for name in ("libskewguard.so", "libskewguard.so.0"):
-        (place / name).symlink_to(pathlib.Path(built, "libskewguard.so").resolve(strict=True))
-    return str(place)
-
-
-def compiled(library, folder):
+def compiled(library: pathlib.Path, folder: pathlib.Path) -> pathlib.Path:
     """The program of bench/languages.c."""
-    program = f"{folder}/languages"
-    flags = ["-std=gnu99", "-O2", "-Wall", "-Wextra", f"-I{TOP}/bindings/c"]
+    program = folder / "languages"
+    flags = ["-std=gnu99", "-O2", "-Wall", "-Wextra", f"-I{HEADER_FOLDER}"]
     libraries = [f"-L{library}", "-lskewguard", "-lsqlite3", "-lpthread", f"-Wl,-rpath,{library}"]
-    subprocess.run(["cc", *flags, "-o", program, f"{TOP}/bench/languages.c", *libraries], check=True)
-    return [program]
+    carry_out(["cc", *flags, "-o", program, TOP / "bench/languages.c", *libraries])
+    return program
 
 
-def packaged(folder):
-    """The folder of the package with its extension, as a wheel has it."""
-    words = [sys.executable, "-c", "import sys, wheels; print(wheels.build_wheel(sys.argv[1]))", folder]
-    built = {"cwd": f"{TOP}/bindings/python/backend", "stdout": subprocess.PIPE, "text": True}
-    wheel = subprocess.run(words, check=True, **built).stdout.split()[-1]
-    with zipfile.ZipFile(f"{folder}/{wheel}") as files:
-        files.extractall(f"{folder}/packages")
-    return f"{folder}/packages"
-
-
-def commands_of(library, folder):
-    """For each language its command, and what its environment has."""
-    python = [sys.executable, os.path.abspath(__file__), "--run"]
-    found = {"SKEWGUARD_LIBRARY": f"{library}/libskewguard.so.0", "PYTHONPATH": packaged(folder)}
+def commands_of(library: pathlib.Path, folder: pathlib.Path) -> dict[str, Command]:
+    """For each language its command. The package has its extension, as a wheel has it."""
+    python: list[Word] = [sys.executable, os.path.abspath(__file__), "--run"]
+    found = {"SKEWGUARD_LIBRARY": f"{library}/{SONAME}", "PYTHONPATH": str(unpacked(packed("wheel", PYTHON, folder)))}
     return {
-        "C": (compiled(library, folder), found),
-        "Python": (python, found | {"SKEWGUARD_CTYPES": "0", "WANTED": "C"}),
-        "ctypes": (python, found | {"SKEWGUARD_CTYPES": "1", "WANTED": "ctypes"}),
+        "C": Command([compiled(library, folder)], found),
+        "Python": Command(python, found | {"SKEWGUARD_CTYPES": "0", "WANTED": "C"}),
+        "ctypes": Command(python, found | {"SKEWGUARD_CTYPES": "1", "WANTED": "ctypes"}),
     }
 
 
-def sides_of(language):
+def sides_of(language: str) -> Sequence[str]:
     """What is run from a language. SQLite is run from Python once, since the implementation changes nothing there."""
     return SIDES[:2] if language == "ctypes" else SIDES
 
 
-def ran(command, known, side, setup, update, changes, threads):
-    """What a run says, on standard output and on standard error."""
-    words = [*command, side, setup, update, changes, str(threads)]
-    done = subprocess.run(words, check=True, capture_output=True, text=True, env=os.environ | known)
-    return done.stdout, done.stderr
+def measured(command: Command, side: str, setup: str, update: str, changes: pathlib.Path, threads: int) -> Timed:
+    """What a run takes."""
+    words = [*command.words, side, setup, update, changes, threads]
+    passed, used, refused = output_of(words, more=command.more, timeout=None).split()
+    each = 1e6 / (changes.stat().st_size / 16)
+    return Timed(float(passed) * each, float(used) * each, int(refused))
 
 
-def measured(changes, *run):
-    """Microseconds a transaction on the clock and of the processor, and how many COMMITs were refused for others."""
-    passed, used, refused = ran(*run)[0].split()
-    each = 1e6 / (os.path.getsize(changes) / 16)
-    return float(passed) * each, float(used) * each, int(refused)
-
-
-def measure(form, rows, asked, commands, folder):
+def measure(form: Form, rows: int, asked: Asked, commands: Mapping[str, Command],
+            folder: pathlib.Path) -> dict[tuple[int, str, str], list[Timed]]:
     """The figures of each number of threads, language and side."""
     setups, update = write_setups(form, rows, folder), update_of(form)
-    changes, found = write_changes(form, rows, asked.transactions, folder), {}
+    changes = write_changes(form, rows, asked.transactions, folder)
+    found: dict[tuple[int, str, str], list[Timed]] = {}
     for _ in range(asked.repetitions):
         for threads in asked.threads:
             for language in LANGUAGES:
                 for side in sides_of(language):
-                    figures = measured(changes, *commands[language], side, setups[side], update, changes, threads)
-                    found.setdefault((threads, language, side), []).append(figures)
+                    one = measured(commands[language], side, setups[side], update, changes, threads)
+                    found.setdefault((threads, language, side), []).append(one)
     for key, figures in found.items():
-        each = " ".join(f"{one[0]:.1f}/{one[1]:.1f}" for one in figures)
+        each = " ".join(f"{one.passed:.1f}/{one.used:.1f}" for one in figures)
         print(f"{form.name}, {rows} rows, {key}: {each}", flush=True)
     return found | {(threads, "ctypes", "sqlite"): found[threads, "Python", "sqlite"] for threads in asked.threads}
 
 
-def instructions(command, known, *run):
-    """The instructions of a run."""
-    counting = ["valgrind", "--tool=callgrind", "--callgrind-out-file=/dev/null", *command]
-    return int(re.search(r"Collected : (\d+)", ran(counting, known, *run)[1])[1])
-
-
-def count(form, rows, asked, commands, folder):
+def count(form: Form, rows: int, asked: Asked, commands: Mapping[str, Command],
+          folder: pathlib.Path) -> dict[tuple[str, str], float]:
     """The instructions of a transaction, by languages and sides."""
-    setups, update, found = write_setups(form, rows, folder), update_of(form), {}
+    setups, update = write_setups(form, rows, folder), update_of(form)
+    found: dict[tuple[str, str], float] = {}
     for language in LANGUAGES:
         for side in sides_of(language):
             counts = []
             for times in (3 * asked.transactions, asked.transactions):
                 changes = write_changes(form, rows, times, folder)
-                counts.append(instructions(*commands[language], side, setups[side], update, changes, 1))
+                words = [*commands[language].words, side, setups[side], update, changes, 1]
+                counts.append(instructions(words, commands[language].more))
             many, few = counts
             found[language, side] = (many - few) / (2 * asked.transactions)
             print(f"{form.name}, {rows} rows, {language}, {side}: {found[language, side]:.0f}", flush=True)
     return found | {("ctypes", "sqlite"): found["Python", "sqlite"]}
 
 
-def print_counts(found):
+def print_counts(found: Mapping[tuple[str, int, str], Sequence[float]]) -> None:
+    """The table of instructions."""
     heads = ["form", "rows", "from", "skewguard, instructions", "at once", "SQLite, instructions", "SQLite / skewguard"]
     rows = []
     for (form, size, language), (own, whole, other) in found.items():
@@ -334,11 +347,13 @@ def print_counts(found):
     table(heads, rows)
 
 
-def medians(figures):
+def medians(figures: Sequence[Sequence[float]]) -> list[float]:
+    """The median of each column."""
     return [statistics.median(column) for column in zip(*figures)]
 
 
-def print_table(found):
+def print_table(found: Mapping[tuple[str, int, int, str], Mapping[str, Sequence[Timed]]]) -> None:
+    """The table of times."""
     heads = ["form", "rows", "threads", "from", "skewguard, us", "at once, us", "SQLite, us", "SQLite / skewguard"]
     heads += ["skewguard, processor", "at once, processor", "SQLite, processor", "tried again"]
     rows = []
@@ -350,30 +365,31 @@ def print_table(found):
     table(heads, rows)
 
 
-def numbers(text):
-    return [int(number) for number in text.split(",")]
-
-
-def parsed():
-    words = argparse.ArgumentParser(description=__doc__, formatter_class=argparse.RawDescriptionHelpFormatter)
-    words.add_argument("--library", help="the folder of libskewguard.so; without it tools/c_library.py builds it")
-    words.add_argument("--rows", type=numbers)
-    words.add_argument("--threads", type=numbers, default=[1, 4])
+def parsed() -> Asked:
+    """What the command line asks for, where counting asks for less than timing."""
+    words = parser_of(__doc__, whole=True)
+    words.add_argument("--library", type=pathlib.Path,
+        help="the folder of libskewguard.so; without it tools/c_library.py builds it")
+    words.add_argument("--rows", type=numbers_of)
+    words.add_argument("--threads", type=numbers_of, default=[1, 4])
     words.add_argument("--forms", type=lambda text: text.split(","), default=["by row", "by group"])
     words.add_argument("--transactions", type=int)
     words.add_argument("--repetitions", type=int, default=5)
     words.add_argument("--instructions", action="store_true")
     words.add_argument("--many", action="store_true")
-    asked = words.parse_args()
-    asked.rows = asked.rows or ([1000] if asked.instructions else [10_000, 100_000])
-    asked.transactions = asked.transactions or (300 if asked.instructions else 20_000)
-    return asked
+    given = words.parse_args()
+    given.rows = given.rows or ([1000] if given.instructions else [10_000, 100_000])
+    given.transactions = given.transactions or (300 if given.instructions else 20_000)
+    return Asked(**vars(given))
 
 
-def main():
-    asked, found, counts = parsed(), {}, {}
-    with tempfile.TemporaryDirectory() as folder:
-        commands = commands_of(linked(asked.library, folder), folder)
+def main() -> None:
+    asked = parsed()
+    found: dict[tuple[str, int, int, str], dict[str, list[Timed]]] = {}
+    counts: dict[tuple[str, int, str], list[float]] = {}
+    with temporary_folder() as folder:
+        library = (asked.library or library_in(folder, quiet=True)).resolve()
+        commands = commands_of(linked(library, folder, static=False), folder)
         print(f"SQLite {sqlite3.sqlite_version}, {machine(asked.repetitions)}", flush=True)
         if asked.many:
             print_many(commands, asked.repetitions)
@@ -390,13 +406,14 @@ def main():
     if asked.instructions:
         print_counts(counts)
         return
-    print(f"load at the end {os.getloadavg()[0]:.1f}")
+    load_at_end()
     print_table(found)
 
 
 if __name__ == "__main__":
     if sys.argv[1:2] == ["--run"]:
-        run_in_python(*sys.argv[2:6], int(sys.argv[6]))
+        side_of_it, setup_of_it, update_of_it, path_of_it, threads_of_it = sys.argv[2:]
+        run_in_python(side_of_it, setup_of_it, update_of_it, path_of_it, int(threads_of_it))
     elif sys.argv[1:2] == ["--run-many"]:
         run_many(sys.argv[2])
     else:

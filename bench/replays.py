@@ -14,12 +14,12 @@ from harness.measures import (
     power, spread, table)
 from harness.programs import (
     PROGRAM, TOP, Answer, Word, built, carry_out, output_of, pipe, replay, run, run_on, words_of_replay)
-from harness.reports import answers, replies
+from harness.reports import replies
 from harness.texts import Path, ended, memory_folder, placed, temporary_folder, write, written
 
 __all__ = [
-    "HEADER_FOLDER", "PROGRAM", "PYTHON", "SONAME", "TOP", "Answer", "Figures", "Path", "Used", "Word", "answers",
-    "built", "carry_out", "digits", "ended", "exponent", "instructions", "launched", "least_memory", "library_in",
+    "HEADER_FOLDER", "PROGRAM", "PYTHON", "SONAME", "TOP", "Answer", "Figures", "Path", "Used", "Word", "built",
+    "carry_out", "digits", "ended", "exponent", "instructions", "launched", "least_memory", "library_in",
     "lines_of", "linked", "load_at_end", "loads", "machine", "measured_replay", "memory_folder", "numbers_of",
     "output_of", "packed", "parser_of", "pipe", "placed", "power", "program_of", "replay", "replies", "run", "run_on",
     "servers", "spelled", "spread", "table", "take_program", "temporary_folder", "unpacked", "words_of_replay",

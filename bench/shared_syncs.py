@@ -13,23 +13,20 @@ two keeps the rule. The sides take turns on one disk, and the table that docs/PE
 medians.
 """
 
+from __future__ import annotations
+
 import argparse
 import contextlib
 import pathlib
 import re
 import sqlite3
 import statistics
-import sys
-import tempfile
 import threading
 import time
+from collections.abc import Callable, Iterator
 
 import skewguard
-
-sys.path.insert(0, str(pathlib.Path(__file__).resolve().parents[1] / "tools"))
-
-from harness import loads, servers
-from harness.measures import table
+from replays import Path, loads, parser_of, servers, table, temporary_folder, written
 
 ROWS = 1024
 THREADS = 1, 4, 16
@@ -38,12 +35,12 @@ OWN = ROWS // max(THREADS)
 DURABLE = {"fsync": "on", "synchronous_commit": "on", "full_page_writes": "on"}
 
 
-def keys_of(thread, commits):
+def keys_of(thread: int, commits: int) -> Iterator[int]:
     """Keys of a thread's own, each of another owner than the one before it."""
     return (OWN * thread + at * loads.MEMBERS % OWN for at in range(commits))
 
 
-def seconds_of(work, threads):
+def seconds_of(work: Callable[[int], None], threads: int) -> float:
     """How long threads take that each do a work by its number."""
     started = [threading.Thread(target=work, args=(thread,)) for thread in range(threads)]
     began = time.perf_counter()
@@ -54,20 +51,22 @@ def seconds_of(work, threads):
     return time.perf_counter() - began
 
 
-def timed_skewguard(folder, threads, commits):
+def timed_skewguard(folder: pathlib.Path, threads: int, commits: int) -> float:
+    """The seconds of so many commits with a journal."""
     with skewguard.open("".join(loads.ledger(ROWS)), journal=folder / "journal") as manager:
-        def work(thread):
+        def work(thread: int) -> None:
             for key in keys_of(thread, commits // threads):
                 manager.run_transaction([(UPDATE, (key,))])
 
         return seconds_of(work, threads)
 
 
-def timed_sqlite(folder, threads, commits):
+def timed_sqlite(folder: pathlib.Path, threads: int, commits: int) -> float:
+    """The same of SQLite."""
     path = folder / "sqlite.db"
     loads.sqlite_ledger(path, ROWS).close()
 
-    def work(thread):
+    def work(thread: int) -> None:
         own = sqlite3.connect(path, isolation_level=None, timeout=60)
         own.execute("PRAGMA synchronous=FULL")
         for key in keys_of(thread, commits // threads):
@@ -80,34 +79,34 @@ def timed_sqlite(folder, threads, commits):
 
 
 @contextlib.contextmanager
-def postgresql(folder):
+def postgresql(folder: Path | None) -> Iterator[servers.Server | None]:
     """A server with the accounts, on the same disk; None where there is none."""
     if not servers.server_programs():
         yield None
         return
-    with tempfile.TemporaryDirectory(dir=folder) as data:
+    with temporary_folder(folder) as data:
         server = servers.Server(data, DURABLE)
         try:
-            rows = pathlib.Path(data) / "accounts.sql"
-            rows.write_text("".join([loads.ACCT, *loads.inserts("ACCT", loads.accounts(ROWS))]), encoding="utf-8")
-            server.run("psql", "-Xq", "-h", data, "-U", "postgres", "-f", str(rows), "postgres")
+            rows = written(data / "accounts.sql", [loads.ACCT, *loads.inserts("ACCT", loads.accounts(ROWS))])
+            server.run("psql", "-Xq", "-h", server.folder, "-U", "postgres", "-f", rows, "postgres")
             key = f"\\set id :client_id * {OWN} + random(0, {OWN - 1})"
-            update = UPDATE.replace("?", ":id")
-            (pathlib.Path(data) / "update.sql").write_text(f"{key}\n{update};\n", encoding="utf-8")
+            written(data / "update.sql", [f"{key}\n{UPDATE.replace('?', ':id')};\n"])
             yield server
         finally:
             server.stop()
 
 
-def timed_postgresql(server, threads, commits):
+def timed_postgresql(server: servers.Server, threads: int, commits: int) -> float:
+    """The same of PostgreSQL."""
     clients = ["-c", str(threads), "-j", str(threads), "-t", str(commits // threads)]
     where = ["-h", server.folder, "-U", "postgres", "-f", f"{server.folder}/update.sql", "postgres"]
     told = server.run("pgbench", "-n", "-M", "prepared", *clients, *where)
-    return commits / float(re.search(r"^tps = ([\d.]+) \(without", told, re.MULTILINE)[1])
+    (rate,) = re.findall(r"^tps = ([\d.]+) \(without", told, re.MULTILINE)
+    return commits / float(rate)
 
 
-def main():
-    parser = argparse.ArgumentParser(description=__doc__.split("\n", 1)[0])
+def main() -> None:
+    parser = parser_of(__doc__)
     parser.add_argument("--commits", type=int, default=4000)
     parser.add_argument("--repetitions", type=int, default=5)
     parser.add_argument("--folder", default=None)
@@ -117,14 +116,14 @@ def main():
     table(["threads", "skewguard with a journal", "SQLite, WAL, FULL", "PostgreSQL, synchronous_commit"], rows)
 
 
-def row_of(threads, server, words):
+def row_of(threads: int, server: servers.Server | None, words: argparse.Namespace) -> list[str]:
     """The rates of so many threads."""
     sides = [timed_skewguard, timed_sqlite]
-    seconds = [[] for _ in range(3)]
+    seconds: list[list[float]] = [[] for _ in range(3)]
     for _ in range(words.repetitions):
         for each, timed in zip(seconds, sides):
-            with tempfile.TemporaryDirectory(dir=words.folder) as folder:
-                each.append(timed(pathlib.Path(folder), threads, words.commits))
+            with temporary_folder(words.folder) as folder:
+                each.append(timed(folder, threads, words.commits))
         if server:
             seconds[2].append(timed_postgresql(server, threads, words.commits))
     rates = (f"{words.commits / statistics.median(each):,.0f}" if each else "-" for each in seconds)

@@ -11,7 +11,8 @@ a time runs.
 Skewguard replays one transaction of INSERTs, UPDATEs and DELETEs in turns, each of one row by its key, on tables of so
 many rows; the processor time of a replay with an empty script, for loading alone, is taken off. Reading the texts and
 writing the report are in it. SQLite, as Python's standard library has it, does the same in memory, in one transaction,
-by statements that are prepared once and take their values as bound parameters. It keeps the rule in two ways, and some in a third:
+by statements that are prepared once and take their values as bound parameters. It keeps the rule in two ways, and some
+in a third:
 
 - from scratch: after each statement the assertion's own condition as a query, with the index that serves it best;
 - with triggers: a side table holds a total for each group, triggers keep it and refuse what would make the rule false.
@@ -23,17 +24,18 @@ or a false assertion ends the run. So does a trigger, a foreign key, or an asser
 refuse what breaks its rule. The peak memory of loading, and what a committed change adds to it, are printed too.
 """
 
-import argparse
-import os
+from __future__ import annotations
+
 import pathlib
 import sqlite3
 import sys
-import tempfile
 import time
+import typing
+from collections.abc import Iterable, Iterator, Mapping, Sequence
 
 from replays import (
-    Figures, built, digits, exponent, least_memory, loads, machine, measured_replay, numbers_of, power, spread, table,
-    written)
+    Figures, Path, Used, digits, exponent, least_memory, load_at_end, loads, machine, measured_replay, numbers_of,
+    parser_of, power, program_of, spread, table, take_program, temporary_folder, written)
 
 # Rounds of an INSERT, an UPDATE and a DELETE in one repetition, by rows: so many that loading, which is taken off, does
 # not cover them. From scratch fewer do.
@@ -56,15 +58,36 @@ NEW_SHIFT = "INSERT INTO SHIFTS VALUES (?)"
 MOST = 1_000_000_000  # that all accounts may sum to, in the single form
 
 
+Values = tuple[int, ...]
+Step = tuple[str, Values]  # a statement with its values
+Found = Mapping[tuple[str, int], Figures]  # by the name of a form and the size of its tables
+
+
+class Try(typing.NamedTuple):
+    """A statement with its values, and whether it breaks the rule."""
+
+    statement: str
+    values: Values
+    breaks: bool
+
+
+class Other(typing.NamedTuple):
+    """Another way of SQLite: its name, what makes its tables, and what is added to them."""
+
+    name: str
+    tables: Sequence[str]
+    added: Sequence[str]
+
+
 class Form:
     """Tables and an assertion over them, or none; SQLite keeps it by an index and a query, or a table and triggers.
 
-    `totals` are two queries, of the totals that are kept and of those of the rows. `tries` are statements on small
-    tables, each with whether it breaks the rule. `other` is another way for SQLite: its name, and what makes its tables
-    and is added to them.
+    `totals` are two queries, of the totals that are kept and of those of the rows. `tries` are of small tables.
     """
 
-    def __init__(self, name, tables, condition=None, index=None, side=(), triggers=(), totals=(), tries=(), other=None):
+    def __init__(self, name: str, tables: Sequence[str], condition: str = "", index: str = "",
+                 side: Sequence[str] = (), triggers: Sequence[str] = (), totals: Sequence[str] = (),
+                 tries: Sequence[tuple[str, Values, bool]] = (), other: Other | None = None) -> None:
         self.name = name
         self.tables = tables
         self.condition = condition
@@ -72,52 +95,52 @@ class Form:
         self.side = side
         self.triggers = triggers
         self.totals = totals
-        self.tries = tries
+        self.tries = [Try(*one) for one in tries]
         self.other = other
         self.changed = "DUTY" if DUTY in tables else "ACCT"
         self.insert = f"INSERT INTO {self.changed} VALUES (?, ?, ?)"
         self.update = f"UPDATE {self.changed} SET {'SHIFT' if DUTY in tables else 'BAL'} = ? WHERE ID = ?"
         self.delete = f"DELETE FROM {self.changed} WHERE ID = ?"
 
-    def row(self, key, number, rows):
+    def row(self, key: int, number: int, rows: int) -> Values:
         """A row under a key: ten rows share a shift or an owner, and balances have up to a thousand values."""
         return key, number % (rows // 10), 1 if self.changed == "DUTY" else number * 37 % 1000
 
-    def loaded(self, rows):
+    def loaded(self, rows: int) -> Iterator[Step]:
         """The rows to begin with. Their keys are even, so that new ones fall between them."""
         if SHIFTS in self.tables:
             yield from ((NEW_SHIFT, (shift,)) for shift in range(rows // 10))
         yield from ((self.insert, self.row(2 * number, number, rows)) for number in range(rows))
 
-    def round(self, number, rows):
+    def round(self, number: int, rows: int) -> tuple[Step, Step, Step]:
         """A row comes, changes its shift or its balance, and goes; its key may be anywhere in the table."""
         key = 2 * (number * 7919 % rows) + 1
         row = self.row(key, number * 7919, rows)
         changed = (row[1] + 1) % (rows // 10) if self.changed == "DUTY" else row[2] + 1
         return (self.insert, row), (self.update, (changed, key)), (self.delete, (key,))
 
-    def another(self, number, rows):
+    def another(self, number: int, rows: int) -> int:
         """What an UPDATE may give to a row of the beginning: what the next row has."""
         return self.row(2 * number, number + 1, rows)[1 if self.changed == "DUTY" else 2]
 
-    def definitions(self, rows):
+    def definitions(self, rows: int) -> Iterator[str]:
         """What DEFS holds, piece by piece."""
         yield "\n".join(self.tables) + "\n"
         if self.condition:
             yield f"CREATE ASSERTION RULE CHECK ({self.condition});\n"
         yield from self.inserts(rows)
 
-    def inserts(self, rows):
+    def inserts(self, rows: int) -> Iterator[str]:
         """The rows to begin with, as texts."""
         return (f"{text(*one)}\n" for one in self.loaded(rows))
 
 
-def valued(statement, values):
+def valued(statement: str, values: Values) -> str:
     """A statement with its values put in."""
     return statement.replace("?", "{}").format(*values)
 
 
-def text(statement, values):
+def text(statement: str, values: Values) -> str:
     """The same as skewguard reads it."""
     return f"{valued(statement, values)};"
 
@@ -131,7 +154,7 @@ class Stays(Form):
     Each has two nights, and the two nights behind it are free.
     """
 
-    def __init__(self, in_room):
+    def __init__(self, in_room: int) -> None:
         meets = "B.ROOM = {0}.ROOM AND B.ID <> {0}.ID AND B.FROM_DAY < {0}.TO_DAY AND {0}.FROM_DAY < B.TO_DAY"
         refuse = f"{REFUSE} WHERE EXISTS (SELECT 1 FROM STAYS B WHERE {meets.format('NEW')});"
         triggers = [
@@ -169,7 +192,7 @@ class Stays(Form):
                 ("UPDATE STAYS SET ROOM = ? WHERE ID = ?", (0, 5), False),
                 ("UPDATE STAYS SET ROOM = ? WHERE ID = ?", (0, 0), True),
             ],
-            ("triggers, an index by ROOM alone", [STAYS], ["CREATE INDEX OF_A_ROOM ON STAYS (ROOM)", *triggers]),
+            Other("triggers, an index by ROOM alone", [STAYS], ["CREATE INDEX OF_A_ROOM ON STAYS (ROOM)", *triggers]),
         )
         self.in_room = in_room
         self.changed = "STAYS"
@@ -177,24 +200,24 @@ class Stays(Form):
         self.update = "UPDATE STAYS SET TO_DAY = ? WHERE ID = ?"
         self.delete = "DELETE FROM STAYS WHERE ID = ?"
 
-    def room_and_day(self, number, rows):
+    def room_and_day(self, number: int, rows: int) -> tuple[int, int]:
         """The room of a row of the beginning, and its first day."""
         rooms = max(1, rows // self.in_room)
         return number % rooms, 4 * (number // rooms)
 
-    def loaded(self, rows):
+    def loaded(self, rows: int) -> Iterator[Step]:
         for number in range(rows):
             room, day = self.room_and_day(number, rows)
             yield self.insert, (2 * number, room, day, day + 2)
 
-    def round(self, number, rows):
+    def round(self, number: int, rows: int) -> tuple[Step, Step, Step]:
         """A stay of a night comes behind another one, becomes one of two nights, and goes."""
         at = number * 7919 % rows
         room, day = self.room_and_day(at, rows)
         key = 2 * at + 1
         return (self.insert, (key, room, day + 2, day + 3)), (self.update, (day + 4, key)), (self.delete, (key,))
 
-    def another(self, number, rows):
+    def another(self, number: int, rows: int) -> int:
         """A night more."""
         return self.room_and_day(number, rows)[1] + 3
 
@@ -364,7 +387,8 @@ FORMS = [
             ("UPDATE DUTY SET SHIFT = ? WHERE ID = ?", (1, 1), False),
             ("DELETE FROM SHIFTS WHERE ID = ?", (2,), False),
         ],
-        ("a foreign key", ["PRAGMA foreign_keys = ON", SHIFTS, WITH_KEY], ["CREATE INDEX CHILDREN ON DUTY (SHIFT)"]),
+        Other("a foreign key", ["PRAGMA foreign_keys = ON", SHIFTS, WITH_KEY],
+            ["CREATE INDEX CHILDREN ON DUTY (SHIFT)"]),
     ),
     Stays(10),
     Stays(100),
@@ -375,21 +399,21 @@ FORMS = [
 class Files:
     """The files of one form and size."""
 
-    def __init__(self, folder, form, rows):
+    def __init__(self, folder: pathlib.Path, form: Form, rows: int) -> None:
         self.folder = folder
-        self.definitions = written(f"{folder}/defs", form.definitions(rows))
-        self.empty = written(f"{folder}/empty", [])
-        self.script, self.output = f"{folder}/script", f"{folder}/output"
+        self.definitions = written(folder / "defs", form.definitions(rows))
+        self.empty = written(folder / "empty", [])
+        self.script, self.output = folder / "script", folder / "output"
 
 
-def script_of_rounds(form, rows, rounds, begin="BEGIN"):
+def script_of_rounds(form: Form, rows: int, rounds: int, begin: str = "BEGIN") -> Iterator[str]:
     """One transaction, which is rolled back; with another word in the place of BEGIN each statement is refused."""
     yield f"A: {begin};\n"
     yield from (f"A: {text(*one)}\n" for number in range(rounds) for one in form.round(number, rows))
     yield "A: ROLLBACK;\n"
 
 
-def replayed(program, files, form, rounds):
+def replayed(program: Path, files: Files, form: Form, rounds: int) -> tuple[Used, float]:
     """What loading alone uses, and the processor seconds of the statements after it."""
     loading = measured_replay(program, files.definitions, files.empty)
     whole = measured_replay(program, files.definitions, files.script, files.output)
@@ -397,7 +421,7 @@ def replayed(program, files, form, rounds):
     return loading, whole.seconds - loading.seconds
 
 
-def check_report(output, form, rounds):
+def check_report(output: Path, form: Form, rounds: int) -> None:
     """Every statement was taken, and the rule is true in the end."""
     want = "A: BEGIN 0\n" + "A: INSERT 1\nA: UPDATE 1\nA: DELETE 1\n" * rounds + "A: ROLLBACK\nCOMMITS 0\n"
     report = pathlib.Path(output).read_text()
@@ -409,10 +433,10 @@ def check_report(output, form, rounds):
 SCRATCH, TRIGGERS, OTHER = range(3)
 
 
-def filled(form, rows, how):
+def filled(form: Form, rows: int, how: int) -> sqlite3.Connection:
     """SQLite with the tables in memory, and what is added to them so that the rule is kept."""
     base = sqlite3.connect(":memory:", isolation_level=None)
-    for one in form.other[1] if how == OTHER else form.tables:
+    for one in form.other.tables if form.other and how == OTHER else form.tables:
         base.execute(one)
     base.execute("BEGIN")
     for statement, numbers in form.loaded(rows):
@@ -422,13 +446,15 @@ def filled(form, rows, how):
     return base
 
 
-def add_rule(base, form, how):
+def add_rule(base: sqlite3.Connection, form: Form, how: int) -> None:
     """Adds to the tables of SQLite what keeps the rule in this way."""
-    for one in (form.index,) if how == SCRATCH else form.other[2] if how == OTHER else (*form.side, *form.triggers):
+    by_triggers = [*form.side, *form.triggers]
+    by_other = form.other.added if form.other else by_triggers
+    for one in [form.index] if how == SCRATCH else by_other if how == OTHER else by_triggers:
         base.execute(one)
 
 
-def in_sqlite(form, rows, rounds, how):
+def in_sqlite(form: Form, rows: int, rounds: int, how: int) -> float:
     """The processor seconds of the statements in SQLite, which keeps the rule in this way."""
     base = filled(form, rows, how)
     base.execute("ANALYZE")
@@ -437,7 +463,7 @@ def in_sqlite(form, rows, rounds, how):
     return used
 
 
-def in_one_transaction(base, form, statements, how):
+def in_one_transaction(base: sqlite3.Connection, form: Form, statements: Iterable[Step], how: int) -> float:
     """The processor seconds of statements in a transaction, which is rolled back."""
     query = f"SELECT {form.condition}" if form.condition and how == SCRATCH else None
     base.execute("BEGIN")
@@ -448,7 +474,7 @@ def in_one_transaction(base, form, statements, how):
     return used
 
 
-def processor_time(base, statements, query):
+def processor_time(base: sqlite3.Connection, statements: Iterable[Step], query: str | None) -> float:
     """The processor seconds of statements that each change one row, and leave a query true if there is one."""
     start = time.process_time()
     for statement, numbers in statements:
@@ -459,14 +485,14 @@ def processor_time(base, statements, query):
     return time.process_time() - start
 
 
-def check_totals(base, form):
+def check_totals(base: sqlite3.Connection, form: Form) -> None:
     """The totals are those of the rows."""
     kept, counted = (base.execute(query).fetchall() for query in form.totals)
     if kept != counted:
         sys.exit(f"{form.name}: SQLite has not kept the totals")
 
 
-def check_sqlite(form, how):
+def check_sqlite(form: Form, how: int) -> None:
     """What breaks the rule is refused by SQLite, and nothing else, where it keeps it in this way."""
     base = filled(form, 20, how)
     for statement, numbers, breaks in form.tries:
@@ -478,7 +504,7 @@ def check_sqlite(form, how):
     base.close()
 
 
-def check_refusals(program, form, folder):
+def check_refusals(program: Path, form: Form, folder: pathlib.Path) -> None:
     """What breaks the rule is refused, and nothing else, by SQLite and by skewguard."""
     check_sqlite(form, TRIGGERS)
     if form.other:
@@ -495,25 +521,27 @@ def check_refusals(program, form, folder):
             sys.exit(f"{form.name}: skewguard answers {found} and not {want}")
 
 
-def refuses(base, statement, numbers):
+def refuses(base: sqlite3.Connection, statement: str, numbers: Values) -> bool:
     """Whether SQLite refuses a statement by a trigger or by a foreign key."""
     try:
         base.execute(statement, numbers)
     except sqlite3.IntegrityError as fault:
-        return str(fault) in ("RULE", "FOREIGN KEY constraint failed") or sys.exit(f"SQLite says {fault}")
+        if str(fault) not in ("RULE", "FOREIGN KEY constraint failed"):
+            sys.exit(f"SQLite says {fault}")
+        return True
     return False
 
 
-def told(figures):
+def told(figures: Figures) -> str:
     """All figures of one form and size, in one line."""
     parts = [("us a statement:", "kept", 2), ("triggers", "triggers", 2)]
     parts += [("otherwise", "other", 2)] if figures["other"] else []
     parts += [("from scratch", "scratch", 1), ("loading s", "loading", 4)]
     each = [spread(title, figures[name], places) for title, name, places in parts]
-    return ", ".join([*each, f"{figures.middle('memory') / 1e6:.1f} MB"])
+    return ", ".join([*each, f"{figures.median('memory') / 1e6:.1f} MB"])
 
 
-def measure(program, form, rows, repetitions, folder):
+def measure(program: Path, form: Form, rows: int, repetitions: int, folder: pathlib.Path) -> Figures:
     """Seconds and bytes of loading, and microseconds a statement on each side, in each repetition."""
     rounds, fewer = ROUNDS.get(rows, 20_000), ROUNDS_FROM_SCRATCH.get(rows, 4)
     files, figures = Files(folder, form, rows), Figures()
@@ -531,7 +559,7 @@ def measure(program, form, rows, repetitions, folder):
     return figures
 
 
-def committed_memory(program, form, folder):
+def committed_memory(program: Path, form: Form, folder: pathlib.Path) -> list[float]:
     """Bytes of a committed change of one row: of the whole, and of the same transactions rolled back."""
     files = Files(folder, form, COMMIT_ROWS)
     loaded = measured_replay(program, files.definitions, files.empty).memory
@@ -546,7 +574,7 @@ def committed_memory(program, form, folder):
     return found
 
 
-def check_commits(output, end):
+def check_commits(output: Path, end: str) -> None:
     """Every transaction was taken."""
     report = pathlib.Path(output).read_text()
     commits = COMMITS if end == "COMMIT" else 0
@@ -555,20 +583,20 @@ def check_commits(output, end):
         sys.exit("a transaction was not committed as it has to be")
 
 
-def print_tables(found, sizes):
+def print_tables(found: Found, sizes: Sequence[int]) -> None:
+    """The tables of statements, of growth and of loading."""
     heads = ["form", "rows", "skewguard, us", "SQLite from scratch, best index, us", "SQLite with triggers, us"]
     heads += ["from scratch / skewguard", "triggers / skewguard"]
     rows = []
     for (name, size), one in found.items():
-        kept, scratch, triggers = map(one.middle, ("kept", "scratch", "triggers"))
+        kept, scratch, triggers = one.median("kept"), one.middle("scratch"), one.median("triggers")
         cells = [name, f"{size:,}", digits(kept), digits(scratch), digits(triggers)]
         ratios = [scratch and scratch / kept, triggers / kept]
         rows.append(cells + [digits(ratio) for ratio in ratios])
     table(heads, rows)
-    ways = {form.name: form.other[0] for form in FORMS if form.other}
+    ways = {form.name: form.other.name for form in FORMS if form.other}
     rows = [
-        [name, f"{size:,}", ways[name], digits(one.middle("other")),
-         digits(one.middle("other") / one.middle("kept"))]
+        [name, f"{size:,}", ways[name], digits(one.median("other")), digits(one.median("other") / one.median("kept"))]
         for (name, size), one in found.items()
         if name in ways
     ]
@@ -578,16 +606,18 @@ def print_tables(found, sizes):
     rows = []
     for name in names:
         sides = [[found[name, size].middle(side) for size in sizes] for side in ("kept", "scratch", "triggers")]
-        rows.append([name, *(power(exponent(list(zip(sizes, times)))) for times in sides)])
+        rows.append([name, *(power(exponent(zip(sizes, times))) for times in sides)])
     heads = [f"exponent of growth, {sizes[0]:,} to {sizes[-1]:,} rows", "skewguard"]
     table(heads + ["SQLite from scratch", "SQLite with triggers"], rows)
     heads = ["loading", *(f"{size:,} rows" for size in sizes)]
     rows = [[f"{name}, seconds", *(digits(found[name, size].middle("loading")) for size in sizes)] for name in names]
-    rows += [[f"{name}, peak MB", *(digits(found[name, size].middle("memory") / 1e6) for size in sizes)] for name in names]
+    rows += [[f"{name}, peak MB", *(digits(found[name, size].median("memory") / 1e6) for size in sizes)]
+        for name in names]
     table(heads, rows)
 
 
-def print_memory(program, forms, folder):
+def print_memory(program: Path, forms: Iterable[Form], folder: pathlib.Path) -> None:
+    """The table of what a committed change adds."""
     rows = []
     for form in forms:
         whole, script = committed_memory(program, form, folder)
@@ -596,9 +626,9 @@ def print_memory(program, forms, folder):
     table(heads, rows)
 
 
-def main():
-    words = argparse.ArgumentParser(description="Time of a statement, in skewguard and in SQLite.")
-    words.add_argument("--program", help="the program skewguard; without it `rt run` builds it")
+def main() -> None:
+    words = parser_of("Time of a statement, in skewguard and in SQLite.")
+    take_program(words)
     words.add_argument("--rows", default="1000,10000,100000,1000000", help="sizes of the tables, each at least 20")
     words.add_argument("--repetitions", type=int, default=3)
     words.add_argument("--repetitions-large", type=int, default=1, help=f"repetitions from {LARGE:,} rows on")
@@ -607,11 +637,11 @@ def main():
     chosen = words.parse_args()
     sizes = numbers_of(chosen.rows)
     forms = [form for form in FORMS if not chosen.forms or form.name in chosen.forms.split(",")]
-    program = chosen.program or built()
+    program = program_of(chosen)
     print(f"SQLite {sqlite3.sqlite_version}, {machine(chosen.repetitions)}")
     print(f"a peak below {least_memory() / 1e6:.1f} MB can't be told", flush=True)
-    found = {}
-    with tempfile.TemporaryDirectory() as folder:
+    found: dict[tuple[str, int], Figures] = {}
+    with temporary_folder() as folder:
         for form in forms:
             if form.condition:
                 check_refusals(program, form, folder)
@@ -620,7 +650,7 @@ def main():
                 repetitions = chosen.repetitions_large if rows >= LARGE else chosen.repetitions
                 found[form.name, rows] = one = measure(program, form, rows, repetitions, folder)
                 print(f"{form.name}, {rows} rows, {told(one)}", flush=True)
-        print(f"load at the end {os.getloadavg()[0]:.1f}")
+        load_at_end()
         print_tables(found, sizes)
         if not chosen.without_memory:
             print_memory(program, forms, folder)
