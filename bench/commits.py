@@ -131,7 +131,7 @@ def history(commits: int, behind: bool, end: str = "COMMIT") -> Iterator[Event]:
         yield Event("W", "BEGIN", "BEGIN")
     for number in range(commits):
         yield Event("A", "BEGIN", "BEGIN")
-        yield Event("A", f"UPDATE ACCT SET BAL = BAL + 1 WHERE ID = {number * 619 % HISTORY_KEYS}", "UPDATE 1")
+        yield Event("A", loads.add_one(number * 619 % HISTORY_KEYS), "UPDATE 1")
         yield Event("A", end, end)
     if behind:
         yield Event("W", "ROLLBACK", "ROLLBACK")

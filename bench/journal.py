@@ -28,8 +28,7 @@ SHARED = 4, 16, 1000  # so many commits share a sync
 
 def events(commits: int) -> str:
     """So many transactions of one session."""
-    keys = (at * 7 % ROWS for at in range(commits))
-    return "".join(f"BEGIN; UPDATE ACCT SET BAL = BAL + 1 WHERE ID = {key}; COMMIT;\n" for key in keys)
+    return "".join(f"BEGIN; {loads.add_one(at * 7 % ROWS)}; COMMIT;\n" for at in range(commits))
 
 
 def run_shell(program: Path, folder: pathlib.Path, script: str, *options: Word) -> Answer:
@@ -58,7 +57,7 @@ def timed_sqlite(folder: pathlib.Path, commits: int, synchronous: str) -> float:
     began = time.perf_counter()
     for at in range(commits):
         database.execute("BEGIN")
-        database.execute("UPDATE ACCT SET BAL = BAL + 1 WHERE ID = ?", (at * 7 % ROWS,))
+        database.execute(loads.ADD_ONE, (at * 7 % ROWS,))
         database.execute("COMMIT")
     seconds = time.perf_counter() - began
     database.close()

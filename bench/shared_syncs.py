@@ -30,7 +30,6 @@ from replays import Path, loads, parser_of, servers, table, temporary_folder, wr
 
 ROWS = 1024
 THREADS = 1, 4, 16
-UPDATE = "UPDATE ACCT SET BAL = BAL + 1 WHERE ID = ?"
 OWN = ROWS // max(THREADS)
 DURABLE = {"fsync": "on", "synchronous_commit": "on", "full_page_writes": "on"}
 
@@ -56,7 +55,7 @@ def timed_skewguard(folder: pathlib.Path, threads: int, commits: int) -> float:
     with skewguard.open("".join(loads.ledger(ROWS)), journal=folder / "journal") as manager:
         def work(thread: int) -> None:
             for key in keys_of(thread, commits // threads):
-                manager.run_transaction([(UPDATE, (key,))])
+                manager.run_transaction([(loads.ADD_ONE, (key,))])
 
         return seconds_of(work, threads)
 
@@ -71,7 +70,7 @@ def timed_sqlite(folder: pathlib.Path, threads: int, commits: int) -> float:
         own.execute("PRAGMA synchronous=FULL")
         for key in keys_of(thread, commits // threads):
             own.execute("BEGIN IMMEDIATE")
-            own.execute(UPDATE, (key,))
+            own.execute(loads.ADD_ONE, (key,))
             own.execute("COMMIT")
         own.close()
 
@@ -90,7 +89,7 @@ def postgresql(folder: Path | None) -> Iterator[servers.Server | None]:
             rows = written(data / "accounts.sql", [loads.ACCT, *loads.inserts("ACCT", loads.accounts(ROWS))])
             server.run("psql", "-Xq", "-h", server.folder, "-U", "postgres", "-f", rows, "postgres")
             key = f"\\set id :client_id * {OWN} + random(0, {OWN - 1})"
-            written(data / "update.sql", [f"{key}\n{UPDATE.replace('?', ':id')};\n"])
+            written(data / "update.sql", [f"{key}\n{loads.ADD_ONE.replace('?', ':id')};\n"])
             yield server
         finally:
             server.stop()

@@ -59,7 +59,7 @@ def script(keys: int, sessions: int, transactions: int, contended: bool, begin: 
     for session in range(sessions):
         drawn = random.Random(session)
         keys_of_it = (drawn_key(drawn, keys, sessions, session, contended) for _ in range(transactions // sessions))
-        updates = (f"UPDATE ACCT SET BAL = BAL + 1 WHERE ID = {key}" for key in keys_of_it)
+        updates = map(loads.add_one, keys_of_it)
         yield from loads.transactions(updates, begin, session=f"S{session}")
 
 
@@ -112,7 +112,7 @@ def sqlite(keys: int, transactions: int, contended: bool) -> float:
     start = time.perf_counter()
     for key in chosen:
         database.execute("BEGIN IMMEDIATE")
-        database.execute("UPDATE ACCT SET BAL = BAL + 1 WHERE ID = ?", (key,))
+        database.execute(loads.ADD_ONE, (key,))
         database.execute("COMMIT")
     return transactions / (time.perf_counter() - start)
 

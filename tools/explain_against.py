@@ -21,10 +21,11 @@ import typing
 import xml.etree.ElementTree as ET
 from collections.abc import Iterable, Iterator, Mapping, Sequence
 
+from harness.arguments import parser_of
 from harness.programs import Word, run
 from harness.texts import placed
 
-parser = argparse.ArgumentParser()
+parser = parser_of(__doc__)
 parser.add_argument('reference')
 parser.add_argument('program')
 parser.add_argument('--cases', type=int, default=100)

@@ -12,6 +12,7 @@ FIRST = 1_000_000  # what an account begins with
 SHIFTS = "CREATE TABLE SHIFTS (ID INTEGER PRIMARY KEY);"
 DUTY = "CREATE TABLE DUTY (ID INTEGER PRIMARY KEY, SHIFT INTEGER NOT NULL, ONCALL INTEGER NOT NULL);"
 ACCT = "CREATE TABLE ACCT (ID INTEGER PRIMARY KEY, OWNER INTEGER NOT NULL, BAL INTEGER NOT NULL);"
+ADD_ONE = "UPDATE ACCT SET BAL = BAL + 1 WHERE ID = ?"
 # Someone is on call in each shift; no owner's accounts sum below zero.
 COVERED = """NOT EXISTS (SELECT * FROM SHIFTS S WHERE NOT EXISTS\
  (SELECT * FROM DUTY D WHERE D.SHIFT = S.ID AND D.ONCALL = 1))"""
@@ -26,6 +27,11 @@ def inserts(table: str, rows: Iterable[Iterable[object]]) -> Iterator[str]:
 def accounts(keys: int) -> Iterator[tuple[int, int, int]]:
     """Accounts, of which each owner has some one behind the other."""
     return ((key, key // MEMBERS, FIRST) for key in range(keys))
+
+
+def add_one(key: int) -> str:
+    """The least change of an account, as a text."""
+    return ADD_ONE.replace("?", str(key))
 
 
 def ledger(keys: int) -> Iterator[str]:

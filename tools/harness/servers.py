@@ -1,17 +1,17 @@
 """A PostgreSQL server of one's own, which listens on a socket in its folder alone, without fsync."""
 from __future__ import annotations
 
+import contextlib
 import glob
 import os
 import queue
 import shutil
-import tempfile
 import threading
 import typing
 from collections.abc import Mapping, Sequence
 
 from .programs import printed
-from .texts import Path
+from .texts import Path, temporary_folder
 
 if typing.TYPE_CHECKING:
     from psycopg2.extensions import connection
@@ -59,7 +59,8 @@ class ServerOfCases(Server):
     """One for cases from Python, by psycopg2. Its folder goes with it."""
 
     def __init__(self) -> None:
-        folder = tempfile.mkdtemp(prefix="skewguard_pg_")
+        self.held = contextlib.ExitStack()
+        folder = self.held.enter_context(temporary_folder())
         super().__init__(folder, SETTINGS_OF_CASES, ("--locale=C", "-E", "UTF8"))
 
     def connect(self, options: str = "") -> connection:
@@ -72,7 +73,7 @@ class ServerOfCases(Server):
 
     def stop(self) -> None:
         super().stop()
-        shutil.rmtree(self.folder)
+        self.held.close()
 
 
 class Player(threading.Thread):

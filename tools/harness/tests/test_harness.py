@@ -164,6 +164,7 @@ class Loads(unittest.TestCase):
         ledger, on_call = list(loads.ledger(8)), list(loads.on_call(8))
         self.assertEqual(ledger[1:], [f"INSERT INTO ACCT VALUES ({key}, {key // 4}, 1000000);\n" for key in range(8)])
         self.assertEqual(ledger[0].count(";"), 2)
+        self.assertEqual(loads.add_one(7), "UPDATE ACCT SET BAL = BAL + 1 WHERE ID = 7")
         self.assertEqual(len(on_call), 1 + 2 + 8)
         self.assertEqual(on_call[1::5], ["INSERT INTO SHIFTS VALUES (0);\n", "INSERT INTO DUTY VALUES (3, 0, 0);\n"])
 
