@@ -74,16 +74,16 @@ HISTORIES = {
         "A: INSERT INTO ACCT VALUES (10, 'LEE', 5)", "A: SET CONSTRAINTS ALL IMMEDIATE", "A: COMMIT"], []),
     "epoch_full": History("", ["A: BEGIN", "A: DELETE FROM ACCT WHERE ID = 1", "A: COMMIT", "A: BEGIN",
         "A: SELECT * FROM ACCT", "A: COMMIT"], ["--max-commits", "1"]),
-    "rolled_back": History("", ["A: BEGIN", "A: INSERT INTO ACCT VALUES (9, 'LEE', 1)", "A: DELETE FROM DUTY", "A: ROLLBACK",
-        "A: BEGIN", "A: SELECT * FROM ACCT", "B: VERDICT COVER", "B: BEGIN", "B: VERDICT COVER"], []),
+    "rolled_back": History("", ["A: BEGIN", "A: INSERT INTO ACCT VALUES (9, 'LEE', 1)", "A: DELETE FROM DUTY",
+        "A: ROLLBACK", "A: BEGIN", "A: SELECT * FROM ACCT", "B: VERDICT COVER", "B: BEGIN", "B: VERDICT COVER"], []),
 }
 
 # Tests of crates/manager_rows: those whose calls are made once more where they find no memory, and those whose calls
 # take none.
 TESTS = ["rows::shift_write_skew", "rows::pivot_refused", "rows::same_key_inserted_twice",
     "rows::deferred_then_immediate", "rows::epoch_full", "given_back::by_a_manager", "given_back::rolled_back",
-    "given_back::by_an_engine", "given_back::reader_before_writer", "given_back::deferred_row", "given_back::null_group",
-    "views::changed", "checkpoints::checkpoint_with_funds"]
+    "given_back::by_an_engine", "given_back::reader_before_writer", "given_back::deferred_row",
+    "given_back::null_group", "views::changed", "checkpoints::checkpoint_with_funds"]
 WITHOUT = ["without_memory::without_memory", *(f"lower_without_memory::{name}" for name in ("values", "tables", "pages",
     "locks", "snapshots", "judgment", "a_commit_is_made", "a_commit_is_given_up", "a_transaction_ends"))]
 # What a test ends with; an assertion that fails says something else, even where it shows a line with these words.

@@ -169,7 +169,8 @@ class Loads(unittest.TestCase):
         self.assertEqual(on_call[1::5], ["INSERT INTO SHIFTS VALUES (0);\n", "INSERT INTO DUTY VALUES (3, 0, 0);\n"])
 
     def test_scripts(self) -> None:
-        self.assertEqual("".join(loads.script([("A", "BEGIN"), ("B", "COMMIT", "what else")])), "A: BEGIN;\nB: COMMIT;\n")
+        script = loads.script([("A", "BEGIN"), ("B", "COMMIT", "what else")])
+        self.assertEqual("".join(script), "A: BEGIN;\nB: COMMIT;\n")
         self.assertEqual("".join(loads.transactions(["X", "Y"], "COMMIT", "ROLLBACK", "S")),
             "S: COMMIT;\nS: X;\nS: ROLLBACK;\nS: COMMIT;\nS: Y;\nS: ROLLBACK;\n")
 
