@@ -117,7 +117,8 @@ TURNS = [
     Turn("a correlation name is forgotten", {"specs/Queries": [
         ("source_named (unwrap_or correlation_name table)", "source_named table")]}),
     Turn("WHERE of a query of its own is forgotten", {"specs/Forms": [
-        ("and_then (row_filter source.scope keeps) (λ filter.", "and_then (row_filter source.scope None) (λ filter.")]}),
+        ("and_then (row_filter source.scope keeps) (λ filter.",
+         "and_then (row_filter source.scope None) (λ filter.")]}),
     Turn("the two parts of an AND are exchanged", {"specs/Leaves": [
         ("-- a condition, likewise\n",
          "abbrev pub exchanged : List Cond → List Cond\n"
@@ -205,7 +206,8 @@ def keep_laws(meaning: pathlib.Path) -> None:
     kept = [piece for piece in ["///" + first, *pieces[1:]] if any(f"fn {law}(" in piece for law in LAWS)]
     laws.write_text(head + "".join(kept))
     (meaning / "src/lib.rt").write_text(
-        "//! A copy.\n#![tactic(auto)]\n\nmod laws;\n\npub use laws::{\n    " + ",\n    ".join(sorted(LAWS)) + ",\n};\n")
+        "//! A copy.\n#![tactic(auto)]\n\nmod laws;\n\npub use laws::{\n"
+        + "".join(f"    {law},\n" for law in sorted(LAWS)) + "};\n")
 
 
 def check(meaning: pathlib.Path) -> tuple[Sequence[str], str]:
