@@ -4,9 +4,9 @@
     python3 bench/instructions.py PROGRAM [PROGRAM ..] [--rows 10000] [--statements 2000]
 
 Counted by `valgrind --tool=callgrind`, so the figures are the same in each run, whatever else the machine does. For
-each form of `statements.py` and one with MIN: statements of each kind in one transaction, and transactions of BEGIN,
-one UPDATE and COMMIT, each by key all over the table; what a replay of loading alone takes is taken off. Reading the
-texts and writing the report are in it.
+each form of `statements.py`, one with MIN and one with DISTINCT: statements of each kind in one transaction, and
+transactions of BEGIN, one UPDATE and COMMIT, each by key all over the table; what a replay of loading alone takes is
+taken off. Reading the texts and writing the report are in it.
 """
 
 import os
@@ -18,6 +18,8 @@ from replays import Path, instructions, loads, parser_of, table, temporary_folde
 from statements import ACCT, FORMS, Form, text, valued
 
 LEAST = Form("least", [ACCT], "NOT EXISTS (SELECT OWNER FROM ACCT GROUP BY OWNER HAVING MIN(BAL) < 0)")
+DISTINCT = Form(
+    "distinct", [ACCT], "NOT EXISTS (SELECT OWNER FROM ACCT GROUP BY OWNER HAVING SUM(DISTINCT BAL) < 0)")
 KINDS = ("INSERT", "UPDATE", "DELETE")
 
 
@@ -53,7 +55,7 @@ def main() -> None:
     words.add_argument("--statements", type=int, default=2_000)
     words.add_argument("--forms", default=None, help="some of the forms, by name, with commas between")
     asked = words.parse_args()
-    forms = [one for one in [*FORMS, LEAST] if not asked.forms or one.name in asked.forms.split(",")]
+    forms = [one for one in [*FORMS, LEAST, DISTINCT] if not asked.forms or one.name in asked.forms.split(",")]
     lines = []
     with temporary_folder() as folder:
         for form in forms:

@@ -226,11 +226,14 @@ class Maker:
                  'NOT EXISTS (SELECT C0 FROM T2 GROUP BY C0 HAVING SUM(C1) < 0)',
                  'NOT EXISTS (SELECT * FROM T0 S WHERE (SELECT COUNT(*) FROM T1 D WHERE D.C0 = S.ID) > 2)',
                  'NOT EXISTS (SELECT C0 FROM T1 GROUP BY C0 HAVING MIN(C1) > 1 OR COUNT(C1) > 3)',
+                 'NOT EXISTS (SELECT C0 FROM T1 GROUP BY C0 HAVING COUNT(DISTINCT C1) > 1)',
+                 'NOT EXISTS (SELECT * FROM T0 S WHERE (SELECT SUM(DISTINCT D.C1) FROM T1 D WHERE D.C0 = S.ID) > 2)',
                  'NOT EXISTS (SELECT * FROM T1 A WHERE EXISTS'
                  ' (SELECT * FROM T1 B WHERE B.C0 = A.C0 AND B.ID <> A.ID AND B.C1 = A.C1))',
                  'NOT EXISTS (SELECT * FROM T1 D WHERE EXISTS (SELECT * FROM T2 A WHERE A.ID = D.C0 AND A.C1 < D.C1))',
                  '(SELECT SUM(C1) FROM T2) >= (SELECT COUNT(*) FROM T0)', '(SELECT SUM(C1) FROM T2) BETWEEN 3 AND 9',
                  '(SELECT COUNT(C1) FROM T1 WHERE C1 > 0) BETWEEN 2 AND 6',
+                 '(SELECT SUM(DISTINCT C1) FROM T2) < 6',
                  '(SELECT MAX(C1) FROM T2 WHERE C0 IS NOT NULL) < 3']
         out = ['CREATE TABLE T0 (ID INTEGER PRIMARY KEY)',
                'CREATE TABLE T1 (ID INTEGER PRIMARY KEY, C0 INTEGER, C1 INTEGER)',
@@ -279,7 +282,9 @@ class Maker:
     def function(self, table: str, row: str = '') -> str:
         word = self.pick(['COUNT(*)', 'COUNT', 'SUM', 'SUM', 'MIN', 'MAX'])
         column = self.column(table, 'INTEGER', row)
-        return 'COUNT(*)' if word == 'COUNT(*)' or column.kind != 'column' else f'{word}({own(column)})'
+        quantifier = self.pick(['', '', 'ALL ', 'DISTINCT ', 'DISTINCT '])
+        is_plain = word == 'COUNT(*)' or column.kind != 'column'
+        return 'COUNT(*)' if is_plain else f'{word}({quantifier}{own(column)})'
 
     def linked(self, table: str) -> tuple[bool, str]:
         """Whether it is an EXISTS, and a subquery that is linked to the row R."""

@@ -55,6 +55,8 @@ TEXTS = {
     "two-tables": rule("NOT EXISTS (SELECT * FROM DUTY D, SHIFTS S WHERE D.SHIFT = S.ID)"),
     "average": rule("(SELECT AVG(BAL) FROM ACCT) > 0"),
     "like": rule("NOT EXISTS (SELECT * FROM DUTY WHERE DOCTOR LIKE 'K%')"),
+    "select-distinct": rule("NOT EXISTS (SELECT DISTINCT DOCTOR FROM DUTY WHERE ONCALL > 1)"),
+    "distinct-rows": rule("NOT EXISTS (SELECT SHIFT FROM DUTY GROUP BY SHIFT HAVING COUNT(DISTINCT *) > 1)"),
     "two-groups": rule("NOT EXISTS (SELECT SHIFT FROM DUTY GROUP BY SHIFT, DOCTOR HAVING COUNT(*) > 1)"),
     "deep": rule("(" * 70 + "1 = 1" + ")" * 70),
     "unknown-table": rule("NOT EXISTS (\n    SELECT * FROM SHIFT S WHERE S.HOURS > 12)"),
@@ -69,6 +71,8 @@ TEXTS = {
     "two-keys": "CREATE TABLE T (ID INTEGER PRIMARY KEY, A INTEGER PRIMARY KEY);\n",
     "number-and-text": rule("NOT EXISTS (SELECT * FROM DUTY D WHERE D.ONCALL = 1 AND D.DOCTOR = 7)"),
     "sum-of-texts": rule("NOT EXISTS (SELECT SHIFT FROM DUTY GROUP BY SHIFT HAVING SUM(DOCTOR) > 1)"),
+    "sum-of-distinct-texts": rule(
+        "NOT EXISTS (SELECT SHIFT FROM DUTY GROUP BY SHIFT HAVING SUM(DISTINCT DUTY.DOCTOR) > 1 AND COUNT(*) > 1)"),
     "arithmetic-on-text": rule("NOT EXISTS (SELECT * FROM DUTY WHERE ONCALL + DOCTOR > 1)"),
     "exists-alone": rule("EXISTS (SELECT * FROM DUTY WHERE ONCALL = 1)"),
     "two-rules": rule(

@@ -27,8 +27,8 @@ Item = tuple[str, Way, int, int]  # a rule's head, a way, how far it has come, a
 Chart = list[set[Item]]
 
 RESERVED = set("""ALL AND AS ASSERTION BEGIN BETWEEN BY CHECK COMMIT CONSTRAINTS COUNT CREATE DEFERRABLE DEFERRED
-DELETE EXISTS FALSE FROM GROUP HAVING IMMEDIATE IN INITIALLY INSERT INT INTEGER INTO IS KEY MAX MIN NOT NULL ONLY OR
-PRIMARY READ ROLLBACK SELECT SET SUM TABLE TRUE UNKNOWN UPDATE VALUES VARCHAR VERDICT WHERE WORK""".split())
+DELETE DISTINCT EXISTS FALSE FROM GROUP HAVING IMMEDIATE IN INITIALLY INSERT INT INTEGER INTO IS KEY MAX MIN NOT NULL
+ONLY OR PRIMARY READ ROLLBACK SELECT SET SUM TABLE TRUE UNKNOWN UPDATE VALUES VARCHAR VERDICT WHERE WORK""".split())
 
 # Quoted: a token; `name`, `number`, `width` (a number from 1 to 255), `text`: a kind of token; else a rule. `|` parts
 # the ways.
@@ -73,8 +73,9 @@ factor = prim | sign prim
 sign = '+' | '-'
 prim = number | text | colref | agg | '(' expr ')' | '(' query ')'
 colref = name | name '.' name
-agg = 'COUNT' '(' '*' ')' | function '(' colref ')'
+agg = 'COUNT' '(' '*' ')' | function '(' quantifier colref ')'
 function = 'COUNT' | 'SUM' | 'MIN' | 'MAX'
+quantifier = | 'ALL' | 'DISTINCT'
 query = 'SELECT' listed 'FROM' name correlation_name where group having
 listed = '*' | expr
 correlation_name = | name | 'AS' name

@@ -15,7 +15,7 @@ the other laws alone.
                                             WORD: only the turns with one of these in their name
 
 The crates have to be built (`rt check` in crates/meaning). It prints a line for each turn, with the laws that refuse it
-and the first error, and last how many were refused.
+and the first error, and last how many were refused; the status is 1 where one was not.
 """
 import pathlib
 import re
@@ -105,7 +105,10 @@ TURNS = [
          "link_in child root (Condition-F.Compare left AtMost right) ="),
         ("Comparison.TheVariants.{Equal}", "Comparison.TheVariants.{AtMost}")]}),
     Turn("COUNT is taken for SUM", {"specs/Queries": [
-        ("of_column function.Count column = Count column", "of_column function.Count column = Sum column")]}),
+        ("of_column function.Count All column = Count column", "of_column function.Count All column = Sum column")]}),
+    Turn("DISTINCT is forgotten", {"specs/Queries": [
+        ("of_column function.Count Distinct column = CountDistinct column",
+         "of_column function.Count Distinct column = Count column")]}),
     Turn("any own column is the grouping column", {"specs/Columns": [
         ("in_group group (Some column) = if column == group then Some 0 else None",
          "in_group group (Some column) = Some 0")]}),
@@ -237,7 +240,7 @@ def turn(meaning: pathlib.Path, what: str, files: Files) -> dict[pathlib.Path, s
     return before
 
 
-def main() -> None:
+def main() -> int:
     parser = parser_of(__doc__)
     parser.add_argument("folder", type=pathlib.Path, help="for the copy; it is written over")
     parser.add_argument("words", nargs="*", metavar="word", help="only the turns with one of these in their name")
@@ -257,7 +260,8 @@ def main() -> None:
         refused += bool(error)
         print(f"{what}: {'refused by ' + ', '.join(laws) + '; ' + error[:160] if error else 'PROVED'}", flush=True)
     print(f"{refused} of {len(turns)} turns refused")
+    return refused < len(turns)
 
 
 if __name__ == "__main__":
-    main()
+    sys.exit(main())

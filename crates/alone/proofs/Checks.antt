@@ -1,20 +1,16 @@
 -- A check finds the same violation on two states that moved alike and hold the same rows under the keys that it reads.
 use Rattle.std.proofs.Common.{◌≡◌, ℕ, Bool, true, false, cond, not, List, [], ◌∷◌, ◌++◌, Option, Some, None, length, refl, sym, ap, ◌∙◌, subst, inl, inr, map, filter, arith}
 use Rattle.std.specs.Prelude.{flat_map}
-use Rattle.std.specs.Cmp.{IsTotalOrder}
-use Rattle.std.specs.Ordering.{is_gt, ordering_reverse}
-use Rattle.std.specs.declared.cmp.Ordering.{Ordering}
-use Rattle.std.specs.declared.cmp.Ordering.TheVariants.{Less, Equal, Greater}
 use Rattle.std.proofs.lemmas.Bool.{cases_Bool}
-use Rattle.std.proofs.lemmas.Map.Lookups.{CmpEqualImpliesEq}
 use Rattle.value.specs.declared.values.Root.{Root}
 use Rattle.value.specs.declared.refusals.Refusal.{Refusal}
 use Rattle.value.specs.ValueOrder.{root_cmp}
-use Rattle.value.specs.Ordered.{least, lesser}
-use Rattle.value.proofs.OrderedLists.{has, has-itself, has-least, least-below}
+use Rattle.value.specs.Ordered.{least}
+use Rattle.value.proofs.OrderedLists.{has}
 use Rattle.value.proofs.ValueOrders.{root_cmp_total, root_exact}
 use Rattle.table.specs.declared.rows.Change.{Change}
 use Rattle.table.specs.Rows.{Layout}
+use Rattle.table.proofs.DistinctLemmas.{least_same}
 use Rattle.assertion.specs.declared.assertions.Assertion.{Assertion}
 use Rattle.assertion.specs.declared.forms.Form.{Form}
 use Rattle.assertion.specs.Meaning.{State, bad_roots, least_bad_of}
@@ -35,24 +31,6 @@ use Rattle.alone.proofs.Members.{in_left, in_right, in_flat}
 use Rattle.alone.proofs.Nets.{Alike, net_same, net_exact, net_puts, put_net}
 use Rattle.alone.proofs.Orders.{due_changes, net_in_order}
 use Rattle.alone.proofs.Forms.{root_same, candidates_same, check_keys_same}
-
--- neither is above the other
-level : (c d : Ordering) → d ≡ ordering_reverse c → is_gt c ≡ false → is_gt d ≡ false → c ≡ Equal
-level Less d e g h = let no : is_gt Greater ≡ false = ap is_gt (sym e) ∙ h in cc
-level Equal d e g h = refl
-level Greater d e g h = cc
-
--- lists with the same members have the same least
-least_same : {K : Type 0} {R : K → K → Ordering} (o : IsTotalOrder R) → CmpEqualImpliesEq R → (xs ys : List K) → ((k : K) → has R k xs ≡ has R k ys) → least R xs ≡ least R ys
-least_same o exact [] [] h = refl
-least_same o exact [] (y ∷ ys) h = let e : false ≡ true = h y ∙ has-itself o y ys in cc
-least_same o exact (x ∷ xs) [] h = let e : true ≡ false = sym (has-itself o x xs) ∙ h x in cc
-least_same {K} {R} o exact (x ∷ xs) (y ∷ ys) h =
-    let m : K = lesser R x (least R xs) in
-    let n : K = lesser R y (least R ys) in
-    let low : is_gt (R m n) ≡ false = least-below o x xs n (h n ∙ has-least o y ys) in
-    let high : is_gt (R n m) ≡ false = least-below o y ys m (sym (h m) ∙ has-least o x xs) in
-    ap Some (exact m n (level (R m n) (R n m) (o.antisymm n m) low high))
 
 none_in : (xs : List Root) → least root_cmp xs ≡ None → (r : Root) → has root_cmp r xs ≡ false
 none_in [] h r = refl

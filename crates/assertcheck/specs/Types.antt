@@ -9,7 +9,7 @@ use Rattle.value.specs.declared.values.ColType.{ColType}
 use Rattle.value.specs.declared.values.ColType.TheVariants.{Integer, Varchar}
 use Rattle.table.specs.declared.schemas.Column.{Column}
 use Rattle.table.specs.declared.aggregates.Aggregate.{Aggregate}
-use Rattle.table.specs.declared.aggregates.Aggregate.TheVariants.{CountRows, Count, Sum, Min, Max}
+use Rattle.table.specs.declared.aggregates.Aggregate.TheVariants.{CountRows, Count, CountDistinct, Sum, SumDistinct, Min, Max}
 use Rattle.table.specs.declared.exprs.Expr.{Expr}
 use Rattle.table.specs.declared.exprs.Expr.TheOpen.{Expr-F}
 use Rattle.table.specs.declared.exprs.Expr.TheFolds.{fold-Expr}
@@ -67,7 +67,9 @@ arithmetic_type parts = number_if (list_all is_number parts)
 abbrev pub aggregate_type : List Column → Aggregate → Option DataType
 aggregate_type columns CountRows = Some Number
 aggregate_type columns (Count column) = Some Number
+aggregate_type columns (CountDistinct column) = Some Number
 aggregate_type columns (Sum column) = number_if (is_number (column_type columns column))
+aggregate_type columns (SumDistinct column) = number_if (is_number (column_type columns column))
 aggregate_type columns (Min column) = column_type columns column
 aggregate_type columns (Max column) = column_type columns column
 

@@ -41,9 +41,15 @@ pub fn aggregate_type(columns: &[Column], aggregate: Aggregate) -> Option<DataTy
     ensures { result ≡ aggregate_type_of columns.now aggregate }
 {
     match aggregate {
-        Aggregate::CountRows | Aggregate::Count(_) => Some(DataType::Number),
-        Aggregate::Sum(column) if is_number(column_type(columns, column)) => Some(DataType::Number),
-        Aggregate::Sum(_) => None,
+        Aggregate::CountRows | Aggregate::Count(_) | Aggregate::CountDistinct(_) => {
+            Some(DataType::Number)
+        }
+        Aggregate::Sum(column) | Aggregate::SumDistinct(column) => {
+            match column_type(columns, column) {
+                Some(DataType::Number) => Some(DataType::Number),
+                Some(DataType::Text) | None => None,
+            }
+        }
         Aggregate::Min(column) | Aggregate::Max(column) => column_type(columns, column),
     }
 }

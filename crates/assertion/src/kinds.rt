@@ -10,8 +10,8 @@ pub fn kind(aggregate: Aggregate) -> SlotKind
     ensures { result ≡ kind_of_aggregate aggregate }
 {
     match aggregate {
-        Aggregate::CountRows | Aggregate::Count(_) => SlotKind::Count,
-        Aggregate::Sum(_) => SlotKind::Sum,
+        Aggregate::CountRows | Aggregate::Count(_) | Aggregate::CountDistinct(_) => SlotKind::Count,
+        Aggregate::Sum(_) | Aggregate::SumDistinct(_) => SlotKind::Sum,
         Aggregate::Min(_) | Aggregate::Max(_) => SlotKind::Extreme,
     }
 }

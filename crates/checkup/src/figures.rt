@@ -303,7 +303,7 @@ fn put_reading_of(
     if let Some(column) = kept.grouping.column() {
         add_column(&mut columns, column)?;
     }
-    if let Some(column) = column_of(kept.function) {
+    if let Some(column) = kept.function.column() {
         add_column(&mut columns, column)?;
     }
     put_reading(
@@ -334,17 +334,6 @@ fn put_reading(
         columns: Vec::from_slice(alloc, columns)?,
     })?;
     Ok(())
-}
-
-/// The column of a set function.
-pub fn column_of(function: Aggregate) -> Option<usize> {
-    match function {
-        Aggregate::CountRows => None,
-        Aggregate::Count(column)
-        | Aggregate::Sum(column)
-        | Aggregate::Min(column)
-        | Aggregate::Max(column) => Some(column),
-    }
 }
 
 /// How many rows a table has.

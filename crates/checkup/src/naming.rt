@@ -52,13 +52,15 @@ pub fn push_function(
     function: Aggregate,
     text: &mut String,
 ) -> Result<(), AllocError> {
-    let (word, column) = match function {
+    let (opening, column) = match function {
         Aggregate::CountRows => return text.push_str("COUNT(*)"),
-        Aggregate::Count(column) => ("COUNT", column),
-        Aggregate::Sum(column) => ("SUM", column),
-        Aggregate::Min(column) => ("MIN", column),
-        Aggregate::Max(column) => ("MAX", column),
+        Aggregate::Count(column) => ("COUNT(", column),
+        Aggregate::CountDistinct(column) => ("COUNT(DISTINCT ", column),
+        Aggregate::Sum(column) => ("SUM(", column),
+        Aggregate::SumDistinct(column) => ("SUM(DISTINCT ", column),
+        Aggregate::Min(column) => ("MIN(", column),
+        Aggregate::Max(column) => ("MAX(", column),
     };
     let column = column_name(catalog, table, column);
-    write!(text, "{word}({column})")
+    write!(text, "{opening}{column})")
 }

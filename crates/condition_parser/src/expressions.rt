@@ -8,8 +8,8 @@ ghost use Rattle.leaf_parser.specs.Reads.{Reads};
 
 use crate::levels::{InnerOperand, Level};
 use leaf_parser::{
-    CountArgument, Cursor, NamedColumn, Part, Products, RepeatedPart, Stop, Sums, parse_column,
-    parse_joined, parse_number, parse_parens, parse_text,
+    CountArgument, Cursor, Part, Products, RepeatedPart, SetFunctionArgument, Stop, Sums,
+    parse_column, parse_joined, parse_number, parse_parens, parse_text,
 };
 use sqlite_items::Boxed;
 use std::alloc::{AllocError, Global};
@@ -128,8 +128,8 @@ impl<F: Fn(Global, &mut Cursor<'_>, usize, Want) -> Result<PartInParentheses, St
         ensures { Reads (reader.aggregate_of self.now.depth (inside self.now.depth) function cursor.old) result
             cursor.new }
     {
-        let column = parse_parens(&NamedColumn(self.alloc), cursor, self.depth)?;
-        Ok(Expression::Aggregate(function, column))
+        let argument = parse_parens(&SetFunctionArgument(self.alloc), cursor, self.depth)?;
+        Ok(Expression::Aggregate(function, argument))
     }
 
     /// What follows COUNT.

@@ -39,7 +39,7 @@ pub fn of_expression(expression: &Expression) -> usize {
     match expression {
         Expression::Number(_) | Expression::Text(_) | Expression::CountRows => 1,
         Expression::Column(column) => of_column(column),
-        Expression::Aggregate(_, column) => of_column(column).saturating_add(1),
+        Expression::Aggregate(_, argument) => of_column(&argument.column).saturating_add(1),
         Expression::Subquery(query) => of_query(query.get()),
         Expression::Negation(part) => of_expression(part.get()),
         Expression::Sum(parts) | Expression::Product(parts) => {

@@ -152,9 +152,9 @@ impl<'a> Walk<'a> {
             }
             Expression::Column(column) => self.column(column),
             Expression::CountRows => self.push_leaves(Node::Function(None), 1),
-            Expression::Aggregate(_, column) => {
-                let count = of_column(column).saturating_add(1);
-                self.push_leaves(Node::Function(Some(column)), count)
+            Expression::Aggregate(_, argument) => {
+                let count = of_column(&argument.column).saturating_add(1);
+                self.push_leaves(Node::Function(Some(&argument.column)), count)
             }
             Expression::Subquery(query) => {
                 let from = self.at;

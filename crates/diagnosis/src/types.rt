@@ -149,9 +149,9 @@ pub fn of_type<'a>(
         Expression::Number(_) | Expression::CountRows => Ok(Ok(DataType::Number)),
         Expression::Text(_) => Ok(Ok(DataType::Text)),
         Expression::Column(column) => Ok(Ok(column_type(scopes, column))),
-        Expression::Aggregate(function, column) => Ok(function_type(
+        Expression::Aggregate(function, argument) => Ok(function_type(
             *function,
-            column_type(scopes, column),
+            column_type(scopes, &argument.column),
             Range::of(expression, at),
         )),
         Expression::Subquery(query) => listed_type(alloc, catalog, scopes, query.get(), at),

@@ -126,7 +126,9 @@ fn add_function(view: &View, table: usize, aggregate: Aggregate, out: &mut Print
     let (word, column) = match aggregate {
         Aggregate::CountRows => return out.add("COUNT(*)"),
         Aggregate::Count(column) => ("COUNT(", column),
+        Aggregate::CountDistinct(column) => ("COUNT(DISTINCT ", column),
         Aggregate::Sum(column) => ("SUM(", column),
+        Aggregate::SumDistinct(column) => ("SUM(DISTINCT ", column),
         Aggregate::Min(column) => ("MIN(", column),
         Aggregate::Max(column) => ("MAX(", column),
     };

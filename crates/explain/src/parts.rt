@@ -251,21 +251,13 @@ fn is_among(row: &Row, share: Share<'_>) -> bool {
 
 /// Counts a row in with those that a set function is of so far.
 pub fn count_in(total: &mut Total, aggregate: Aggregate, row: &Row) -> Result<(), AllocError> {
-    let counted = match column_of(aggregate).and_then(|column| row.values().get(column)) {
+    let counted = match aggregate
+        .column()
+        .and_then(|column| row.values().get(column))
+    {
         Some(value) => total.with(aggregate, value),
         None => total.with(aggregate, &Value::Null),
     };
     *total = counted?;
     Ok(())
-}
-
-/// The column at which a set function looks.
-fn column_of(aggregate: Aggregate) -> Option<usize> {
-    match aggregate {
-        Aggregate::CountRows => None,
-        Aggregate::Count(column)
-        | Aggregate::Sum(column)
-        | Aggregate::Min(column)
-        | Aggregate::Max(column) => Some(column),
-    }
 }

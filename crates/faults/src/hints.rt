@@ -54,7 +54,7 @@ impl<'a> Stop<'a> {
 }
 
 /// What SQL has and the language has not, with what to write.
-const ELSEWHERE: [(&str, &str); 45] = [
+const ELSEWHERE: [(&str, &str); 44] = [
     (
         "ALTER",
         "Tables are not altered: write the columns into CREATE TABLE.",
@@ -95,10 +95,6 @@ const ELSEWHERE: [(&str, &str); 45] = [
         "There is no DEFAULT: write the value into each INSERT. A column that is not listed is NULL.",
     ),
     ("DESC", "Rows come in the order of their keys, always."),
-    (
-        "DISTINCT",
-        "There is no DISTINCT. GROUP BY makes one group of each value.",
-    ),
     ("DROP", "Nothing is dropped: leave the definition out."),
     (
         "FLOAT",
@@ -240,7 +236,10 @@ fn push_sentence(sentence: &str, advice: &mut String) -> Result<(), AllocError> 
 
 /// By what stands there and before it.
 fn by_kind(stop: &Stop) -> Option<&'static str> {
-    by_sign(stop).or(by_beginning(stop)).or(by_list(stop))
+    by_sign(stop)
+        .or(by_quantifier(stop))
+        .or(by_beginning(stop))
+        .or(by_list(stop))
 }
 
 /// Of numbers, texts, signs and NULL.
@@ -260,6 +259,22 @@ fn by_sign(stop: &Stop) -> Option<&'static str> {
         (Kind::Less, Kind::Equal) => Some("At most is written <=."),
         (Kind::Open, Kind::Name) if stop.may_be(Kind::Dot) => {
             Some("The functions are COUNT, SUM, MIN and MAX.")
+        }
+        _ => None,
+    }
+}
+
+/// Of ALL and DISTINCT.
+fn by_quantifier(stop: &Stop) -> Option<&'static str> {
+    match (stop.token.kind, stop.last()) {
+        (Kind::Distinct, Kind::Select) => Some(
+            "DISTINCT stands in set functions alone: COUNT(DISTINCT C). GROUP BY makes one group of each value.",
+        ),
+        (Kind::Open, Kind::Distinct) => {
+            Some("The column of a set function stands without parentheses: COUNT(DISTINCT C).")
+        }
+        (Kind::Star, Kind::All | Kind::Distinct) => {
+            Some("COUNT(*) counts rows, and takes neither ALL nor DISTINCT.")
         }
         _ => None,
     }

@@ -5,7 +5,7 @@ use token::Kind;
 use value::Text;
 
 /// Each kind of token that may stand somewhere, with a text of it.
-pub const WORDS: [(Kind, &str); 68] = [
+pub const WORDS: [(Kind, &str); 69] = [
     (Kind::Name, "X"),
     (Kind::Number, "1"),
     (Kind::Text, "''"),
@@ -39,6 +39,7 @@ pub const WORDS: [(Kind, &str); 68] = [
     (Kind::Deferrable, "DEFERRABLE"),
     (Kind::Deferred, "DEFERRED"),
     (Kind::Delete, "DELETE"),
+    (Kind::Distinct, "DISTINCT"),
     (Kind::Exists, "EXISTS"),
     (Kind::False, "FALSE"),
     (Kind::From, "FROM"),

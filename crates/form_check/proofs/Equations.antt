@@ -4,6 +4,7 @@ use Rattle.value.specs.declared.truths.Truth.{Truth}
 use Rattle.value.specs.declared.values.Value.TheVariants as value
 use Rattle.value.specs.declared.comparisons.Comparison.{Comparison}
 use Rattle.syntax.specs.declared.trees.Aggregate.{Aggregate}
+use Rattle.syntax.specs.declared.trees.Argument.{Argument}
 use Rattle.syntax.specs.declared.trees.ColumnName.{ColumnName}
 use Rattle.syntax.specs.declared.trees.Condition.{Condition, roll-Condition}
 use Rattle.syntax.specs.declared.trees.Condition.TheVariants as b
@@ -45,8 +46,8 @@ expression_column place column leaves = ap (λ x. numbered_expression place x le
 pub expression_countrows : (place : ColumnName → Option Expr) (leaves : Leaves) → numbered_expression place e.CountRows leaves ≡ slot Rows leaves
 expression_countrows place leaves = ap (λ x. numbered_expression place x leaves) (sym e.rolls-CountRows) ∙ ap (λ make. make leaves) (expression_rolled place Expression-F.CountRows)
 
-pub expression_aggregate : (place : ColumnName → Option Expr) (function : Aggregate) (column : ColumnName) (leaves : Leaves) → numbered_expression place (e.Aggregate function column) leaves ≡ slot (Of function column) leaves
-expression_aggregate place function column leaves = ap (λ x. numbered_expression place x leaves) (sym (e.rolls-Aggregate function column)) ∙ ap (λ make. make leaves) (expression_rolled place (Expression-F.Aggregate function column))
+pub expression_aggregate : (place : ColumnName → Option Expr) (function : Aggregate) (argument : Argument) (leaves : Leaves) → numbered_expression place (e.Aggregate function argument) leaves ≡ slot (Of function argument) leaves
+expression_aggregate place function argument leaves = ap (λ x. numbered_expression place x leaves) (sym (e.rolls-Aggregate function argument)) ∙ ap (λ make. make leaves) (expression_rolled place (Expression-F.Aggregate function argument))
 
 pub expression_subquery : (place : ColumnName → Option Expr) (query : Query) (leaves : Leaves) → numbered_expression place (e.Subquery query) leaves ≡ slot (Value query) leaves
 expression_subquery place query leaves = ap (λ x. numbered_expression place x leaves) (sym (e.rolls-Subquery query)) ∙ ap (λ make. make leaves) (expression_rolled place (Expression-F.Subquery query))

@@ -148,7 +148,7 @@ module _ (tables : Tables) (scope : Scope) where
   expression_layer (Expression-F.Text t) = literal_known (value.Text t)
   expression_layer (Expression-F.Column column) = column_known column
   expression_layer Expression-F.CountRows = put_known None Rows (λ leaves. expr.Slot (length leaves))
-  expression_layer (Expression-F.Aggregate function column) = put_known (column_fault column scopes) (Of function column) (λ leaves. expr.Slot (length leaves))
+  expression_layer (Expression-F.Aggregate function argument) = put_known (column_fault argument.column scopes) (Of function argument) (λ leaves. expr.Slot (length leaves))
   expression_layer (Expression-F.Subquery query) = put_known (query_fault tables query.0 scopes) (Worth query.0) (λ leaves. expr.Slot (length leaves))
   expression_layer (Expression-F.Negation part) = then_known expr_of.Negation (expression_fault tables part.0 scopes) (numbered_expression place part.0) part.1
   expression_layer (Expression-F.Sum parts) =

@@ -64,7 +64,7 @@ linked_value tables root query =
 -- what stands in a slot of a condition over a row
 abbrev pub slot_query_of : Tables → Scope → Leaf → Result (Subquery Link) Refusal
 slot_query_of tables root Rows = Err OutsideClass
-slot_query_of tables root (Of function column) = Err OutsideClass
+slot_query_of tables root (Of function argument) = Err OutsideClass
 slot_query_of tables root (Exists query) = linked_exists tables root (out-Query query)
 slot_query_of tables root (Value query) = linked_value tables root (out-Query query)
 
@@ -89,14 +89,15 @@ plain_value tables query =
 -- what stands in a slot of a single condition
 abbrev pub plain : Tables → Leaf → Result (Subquery Whole) Refusal
 plain tables Rows = Err OutsideClass
-plain tables (Of function column) = Err OutsideClass
+plain tables (Of function argument) = Err OutsideClass
 plain tables (Exists query) = Err OutsideClass
 plain tables (Value query) = plain_value tables (out-Query query)
 
 -- what stands in a slot of a condition over groups: a set function of the table's rows
 abbrev pub aggregate_of : Scope → Leaf → Result Aggregate Refusal
 aggregate_of scope Rows = Ok CountRows
-aggregate_of scope (Of function column) = in_class (own_column scope column) (λ c. Ok (of_column function c))
+aggregate_of scope (Of function argument) =
+    in_class (own_column scope argument.column) (λ c. Ok (of_column function argument.quantifier c))
 aggregate_of scope (Exists query) = Err OutsideClass
 aggregate_of scope (Value query) = Err OutsideClass
 

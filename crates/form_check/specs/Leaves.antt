@@ -11,6 +11,7 @@ use Rattle.table.specs.declared.conds.Cond.TheVariants as cond
 use Rattle.table.specs.declared.conds.Cond.TheViews as cond_of
 use Rattle.table.specs.Conditions.{between_of, in_of}
 use Rattle.syntax.specs.declared.trees.Aggregate.{Aggregate}
+use Rattle.syntax.specs.declared.trees.Argument.{Argument}
 use Rattle.syntax.specs.declared.trees.ColumnName.{ColumnName}
 use Rattle.syntax.specs.declared.trees.Condition.{Condition}
 use Rattle.syntax.specs.declared.trees.Condition.TheOpen.{Condition-F, Expression-F, SelectList-F, Query-F}
@@ -24,7 +25,7 @@ use Rattle.form_check.specs.Results.{in_class}
 -- what stands in a slot: COUNT(*), a set function of a column, a query under EXISTS, or one that stands for its value
 pub data Leaf : Type 0 where
   Rows : Leaf
-  Of : Aggregate → ColumnName → Leaf
+  Of : Aggregate → Argument → Leaf
   Exists : Query → Leaf
   Value : Query → Leaf
 
@@ -77,7 +78,7 @@ expression_step place (Expression-F.Number n) leaves = Ok (expr.Literal (value.I
 expression_step place (Expression-F.Text t) leaves = Ok (expr.Literal (value.Text t), leaves)
 expression_step place (Expression-F.Column column) leaves = expression_of_column (place column) leaves
 expression_step place Expression-F.CountRows leaves = slot Rows leaves
-expression_step place (Expression-F.Aggregate function column) leaves = slot (Of function column) leaves
+expression_step place (Expression-F.Aggregate function argument) leaves = slot (Of function argument) leaves
 expression_step place (Expression-F.Subquery query) leaves = slot (Value query.0) leaves
 expression_step place (Expression-F.Negation part) leaves = then_made expr_of.Negation (part.1 leaves)
 expression_step place (Expression-F.Sum parts) leaves = then_made expr_of.Sum (all parts leaves)

@@ -5,9 +5,11 @@ use Rattle.value.specs.declared.refusals.Refusal.{Refusal}
 use Rattle.value.specs.declared.refusals.Refusal.TheVariants.{OutsideClass}
 use Rattle.table.specs.Rows.{Layout, Tables, layout_of, position_of}
 use Rattle.table.specs.declared.aggregates.Aggregate.{Aggregate}
-use Rattle.table.specs.declared.aggregates.Aggregate.TheVariants.{CountRows, Count, Sum, Min, Max}
+use Rattle.table.specs.declared.aggregates.Aggregate.TheVariants.{CountRows, Count, CountDistinct, Sum, SumDistinct, Min, Max}
 use Rattle.syntax.specs.declared.trees.Aggregate.{Aggregate as Function}
 use Rattle.syntax.specs.declared.trees.Aggregate.TheVariants as function
+use Rattle.syntax.specs.declared.trees.SetQuantifier.{SetQuantifier}
+use Rattle.syntax.specs.declared.trees.SetQuantifier.TheVariants.{All, Distinct}
 use Rattle.syntax.specs.declared.trees.ColumnName.{ColumnName}
 use Rattle.syntax.specs.declared.trees.Condition.{Condition}
 use Rattle.syntax.specs.declared.trees.Condition.TheOpen.{Expression-F, SelectList-F}
@@ -63,17 +65,20 @@ abbrev pub row_filter : Scope → Option Condition → Result Cond Refusal
 row_filter scope None = Ok (cond_of.And [])
 row_filter scope (Some condition) = row_condition scope condition
 
--- a set function of a column
-abbrev pub of_column : Function → ℕ → Aggregate
-of_column function.Count column = Count column
-of_column function.Sum column = Sum column
-of_column function.Min column = Min column
-of_column function.Max column = Max column
+-- a set function of a column; the least value and the greatest are the same with DISTINCT
+abbrev pub of_column : Function → SetQuantifier → ℕ → Aggregate
+of_column function.Count All column = Count column
+of_column function.Count Distinct column = CountDistinct column
+of_column function.Sum All column = Sum column
+of_column function.Sum Distinct column = SumDistinct column
+of_column function.Min quantifier column = Min column
+of_column function.Max quantifier column = Max column
 
 -- what an expression lists, where it is one set function
 abbrev pub aggregate_in : Scope → Expression-F Condition Expression SelectList Query → Option Aggregate
 aggregate_in scope Expression-F.CountRows = Some CountRows
-aggregate_in scope (Expression-F.Aggregate function column) = option_map (of_column function) (own_column scope column)
+aggregate_in scope (Expression-F.Aggregate function argument) =
+    option_map (of_column function argument.quantifier) (own_column scope argument.column)
 aggregate_in scope other = None
 
 -- what a select list lists, where it is one set function

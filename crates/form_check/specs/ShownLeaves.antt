@@ -14,7 +14,7 @@ use Rattle.form_check.specs.Leaves.{Leaf, Leaves, Rows, Of, Exists, Value}
 -- what stands in a slot, of a lent tree
 abbrev pub shown_leaf : Lent → Leaf
 shown_leaf lent.Rows = Rows
-shown_leaf (lent.Of function column) = Of function column.now
+shown_leaf (lent.Of function argument) = Of function argument.now
 shown_leaf (lent.Exists query) = Exists query.now
 shown_leaf (lent.Value query) = Value query.now
 

@@ -176,8 +176,8 @@ impl<'a> Slots for Aggregates<'a> {
     fn slot(&self, _alloc: Global, leaf: &Leaf) -> Result<Aggregate, Refusal> {
         match leaf {
             Leaf::Rows => Ok(Aggregate::CountRows),
-            Leaf::Of(function, column) => match self.scope.own(column) {
-                Some(column) => Ok(of_column(*function, column)),
+            Leaf::Of(function, argument) => match self.scope.own(&argument.column) {
+                Some(column) => Ok(of_column(*function, argument.quantifier, column)),
                 None => Err(Refusal::OutsideClass),
             },
             Leaf::Exists(_) | Leaf::Value(_) => Err(Refusal::OutsideClass),

@@ -8,7 +8,7 @@ ghost use Rattle.form_check.specs.ShownLeaves.{shown_leaf, shown_leaves, place, 
 use crate::scopes::Scope;
 use sqlite_items::{Boxed, Items};
 use std::alloc::{AllocError, Global};
-use syntax::{Aggregate, ColumnName, Condition, Expression, Query};
+use syntax::{Aggregate, Argument, ColumnName, Condition, Expression, Query};
 use table::{Cond, Expr};
 use value::{Comparison, Refusal, Value};
 
@@ -18,7 +18,7 @@ pub enum Leaf<'a> {
     /// COUNT(*).
     Rows,
     /// A set function of a column.
-    Of(Aggregate, &'a ColumnName),
+    Of(Aggregate, &'a Argument),
     /// A query under EXISTS.
     Exists(&'a Query),
     /// A query that stands for its value.
@@ -232,7 +232,9 @@ pub fn numbered_expression<'a>(
             None => Err(Refusal::OutsideClass),
         },
         Expression::CountRows => Ok(slot(leaves, Leaf::Rows)?),
-        Expression::Aggregate(function, column) => Ok(slot(leaves, Leaf::Of(*function, column))?),
+        Expression::Aggregate(function, argument) => {
+            Ok(slot(leaves, Leaf::Of(*function, argument))?)
+        }
         Expression::Subquery(query) => Ok(slot(leaves, Leaf::Value(query.get()))?),
         Expression::Negation(part) => {
             let part = numbered_expression(alloc, columns, part.get(), leaves)?;

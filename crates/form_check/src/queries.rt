@@ -13,7 +13,7 @@ use crate::leaves::{Columns, Leaf, numbered_condition, numbered_expression};
 use crate::scopes::{Scope, exposed_name};
 use sqlite_items::Items;
 use std::alloc::Global;
-use syntax::{Condition, Expression, SelectList};
+use syntax::{Condition, Expression, SelectList, SetQuantifier};
 use table::{Aggregate, Catalog, Cond, Expr};
 use value::{Refusal, Text};
 
@@ -149,22 +149,25 @@ pub fn selected_aggregate(scope: Scope, select_list: &SelectList) -> Option<Aggr
 {
     match select_list {
         SelectList::One(Expression::CountRows) => Some(Aggregate::CountRows),
-        SelectList::One(Expression::Aggregate(function, column)) => {
-            Some(of_column(*function, scope.own(column)?))
+        SelectList::One(Expression::Aggregate(function, argument)) => {
+            let column = scope.own(&argument.column)?;
+            Some(of_column(*function, argument.quantifier, column))
         }
         SelectList::One(_) | SelectList::Star => None,
     }
 }
 
-/// A set function of a column.
-pub fn of_column(function: syntax::Aggregate, column: usize) -> Aggregate
-    ensures { result ≡ of_column function column }
+/// A set function of a column. The least value and the greatest are the same with DISTINCT.
+pub fn of_column(function: syntax::Aggregate, quantifier: SetQuantifier, column: usize) -> Aggregate
+    ensures { result ≡ of_column function quantifier column }
 {
-    match function {
-        syntax::Aggregate::Count => Aggregate::Count(column),
-        syntax::Aggregate::Sum => Aggregate::Sum(column),
-        syntax::Aggregate::Min => Aggregate::Min(column),
-        syntax::Aggregate::Max => Aggregate::Max(column),
+    match (function, quantifier) {
+        (syntax::Aggregate::Count, SetQuantifier::All) => Aggregate::Count(column),
+        (syntax::Aggregate::Count, SetQuantifier::Distinct) => Aggregate::CountDistinct(column),
+        (syntax::Aggregate::Sum, SetQuantifier::All) => Aggregate::Sum(column),
+        (syntax::Aggregate::Sum, SetQuantifier::Distinct) => Aggregate::SumDistinct(column),
+        (syntax::Aggregate::Min, _) => Aggregate::Min(column),
+        (syntax::Aggregate::Max, _) => Aggregate::Max(column),
     }
 }
 

@@ -73,9 +73,8 @@ pub fn look_up_expression(
 {
     match expression {
         Expression::Number(_) | Expression::Text(_) | Expression::CountRows => Ok(()),
-        Expression::Column(column) | Expression::Aggregate(_, column) => {
-            look_up_column(scopes, column)
-        }
+        Expression::Column(column) => look_up_column(scopes, column),
+        Expression::Aggregate(_, argument) => look_up_column(scopes, &argument.column),
         Expression::Subquery(query) => look_up_query(alloc, catalog, scopes, query.get()),
         Expression::Negation(part) => look_up_expression(alloc, catalog, scopes, part.get()),
         Expression::Sum(parts) | Expression::Product(parts) => {

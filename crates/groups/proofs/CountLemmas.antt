@@ -14,7 +14,7 @@ use Rattle.value.proofs.OrderedLists.{at-put, IsAscending-put, All-put, equal_fr
 use Rattle.table.specs.Aggregates.{is_there}
 use Rattle.pages.specs.Reach.{key_of, value_of as number_of, entry_of}
 use Rattle.groups.proofs.Carried.{at-made, put-made}
-use Rattle.groups.specs.Counts.{Count, count_from, value_of, count_in, count_at, count_entry, put_count, one_up, counts_more, counts_less}
+use Rattle.groups.specs.Counts.{Count, count_from, value_of, count_in, count_at, count_of, count_entry, put_count, one_up, counts_with}
 
 entry-key : (v : Value) (n : ℕ) → HasKey value_cmp value_of v (count_entry v n)
 entry-key v n = elim (n == 0) as (λ b. HasKey value_cmp value_of v (if b then None else Some (record { value = v; count = n }))) [ true ↦ tt | false ↦ refl ]
@@ -60,6 +60,19 @@ set_count f v cs s w =
 -- one more is so below the largest number
 pub one_up-small : (n : ℕ) → n < 2 ^ 63 → one_up n ≡ n + 1
 one_up-small n h = min-eq_left (omega (arith, h))
+
+-- the number of a value that is there
+pub count_of-there : (x : Value) (cs : List Count) → is_there x ≡ true → count_of x cs ≡ count_at x cs
+count_of-there Null cs t = cc
+count_of-there (Int n) cs t = refl
+count_of-there (Text s) cs t = refl
+
+-- the counts with a value once more, or once less
+abbrev pub counts_more : Value → List Count → List Count
+counts_more v cs = counts_with v (one_up (count_of v cs)) cs
+
+abbrev pub counts_less : Value → List Count → List Count
+counts_less v cs = counts_with v (count_of v cs - 1) cs
 
 pub counts_more-at : (x : Value) (cs : List Count) → IsAscending value_cmp value_of cs → (v : Value) → count_at v (counts_more x cs) ≡ cond (is_there x && eq_by_cmp value_cmp v x) (one_up (count_at v cs)) (count_at v cs)
 counts_more-at Null cs s v = refl

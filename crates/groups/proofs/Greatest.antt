@@ -4,11 +4,12 @@ use Rattle.std.specs.Prelude.{is_some}
 use Rattle.std.proofs.lemmas.Map.Lookups.{CmpEqualImpliesEq}
 use Rattle.std.proofs.lemmas.Cmp.{back_total, tied_itself}
 use Rattle.std.specs.Cmp.{IsTotalOrder}
-use Rattle.std.specs.Ordering.{is_eq, is_lt, is_gt, ordering_reverse}
+use Rattle.std.specs.Ordering.{is_lt, is_gt, ordering_reverse}
 use Rattle.std.specs.declared.cmp.Ordering.{Ordering}
 use Rattle.std.specs.declared.cmp.Ordering.TheVariants.{Less, Equal, Greater}
 use Rattle.value.specs.Ordered.{by_order, AreAbove, IsAscending, at, lesser, least}
 use Rattle.value.proofs.OrderedLists.{has, has-itself, has-least, least-below, equal_between}
+use Rattle.table.proofs.DistinctLemmas.{has_back}
 
 -- the last of a list
 abbrev pub last : {A : Type 0} → List A → Option A
@@ -74,16 +75,6 @@ module _ {K : Type 0} {R : K → K → Ordering} (o : IsTotalOrder R) where
       ]
       in cases (R k x) refl h
 
-  -- membership by the order turned round
-  has-back : (k : K) (ys : List K) → has (λ v w. R w v) k ys ≡ has R k ys
-  has-back k [] = refl
-  has-back k (y ∷ ys) = rw (back (R y k) (R k y) (o.antisymm y k), has-back k ys) refl
-    where
-      back : (c d : Ordering) → c ≡ ordering_reverse d → is_eq c ≡ is_eq d
-      back c Less e = rw e refl
-      back c Equal e = rw e refl
-      back c Greater e = rw e refl
-
   -- a list in order with the same members ends with the greatest
   pub least-last : CmpEqualImpliesEq R → (xs ys : List K) → IsAscending R (λ k. k) xs → ((k : K) → is_some (at R (λ k. k) k xs) ≡ has R k ys) → least (λ v w. R w v) ys ≡ last xs
   least-last exact [] [] s h = refl
@@ -93,8 +84,8 @@ module _ {K : Type 0} {R : K → K → Ordering} (o : IsTotalOrder R) where
       let S : K → K → Ordering = λ v w. R w v in
       let m : K = lesser S y (least S ys) in
       let l : K = final x xs in
-      let mine : has S l (y ∷ ys) ≡ true = has-back l (y ∷ ys) ∙ sym (h l) ∙ at-final x xs s in
+      let mine : has S l (y ∷ ys) ≡ true = has_back o l (y ∷ ys) ∙ sym (h l) ∙ at-final x xs s in
       let high : is_gt (R l m) ≡ false = least-below (back_total o) y ys l mine in
-      let among : is_some (at R (λ k. k) m (x ∷ xs)) ≡ true = h m ∙ sym (has-back m (y ∷ ys)) ∙ has-least (back_total o) y ys in
+      let among : is_some (at R (λ k. k) m (x ∷ xs)) ≡ true = h m ∙ sym (has_back o m (y ∷ ys)) ∙ has-least (back_total o) y ys in
       let low : is_gt (R m l) ≡ false = at-below m x xs s among in
       ap Some (exact m l (equal_between (R m l) (not_lt (R l m) (R m l) (o.antisymm m l) high) low)) ∙ sym (last-final x xs)

@@ -1,6 +1,7 @@
 pub mod AnswerLemmas
 pub mod Carried
 pub mod CountLemmas
+pub mod DistinctLemmas
 pub mod EntryLemmas
 pub mod ExtremeLemmas
 pub mod FilteredKeys

@@ -14,7 +14,7 @@ use Rattle.value.specs.ValueOrder.{value_cmp}
 use Rattle.value.specs.Ordered.{by_order, at, put}
 use Rattle.value.proofs.ValueOrders.{value_cmp_total}
 use Rattle.table.specs.declared.aggregates.Aggregate.{Aggregate}
-use Rattle.table.specs.declared.aggregates.Aggregate.TheVariants.{CountRows, Count, Sum, Min, Max}
+use Rattle.table.specs.declared.aggregates.Aggregate.TheVariants.{CountRows, Count, CountDistinct, Sum, SumDistinct, Min, Max}
 use Rattle.table.specs.Rows.{RowValues, value_in, row_at, put_row}
 use Rattle.table.specs.Bounds.{IsSmallRow}
 use Rattle.table.specs.Slots.{magnitude}
@@ -140,7 +140,9 @@ column_small (v ∷ vs) (suc c) h = column_small vs c (All-tail IsSmall v vs h)
 value_small : (a : Aggregate) (row : RowValues) → IsSmallRow row → IsSmall (value_for a row)
 value_small CountRows row h = omega arith
 value_small (Count c) row h = column_small row c h
+value_small (CountDistinct c) row h = column_small row c h
 value_small (Sum c) row h = column_small row c h
+value_small (SumDistinct c) row h = column_small row c h
 value_small (Min c) row h = column_small row c h
 value_small (Max c) row h = column_small row c h
 

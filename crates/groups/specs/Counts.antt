@@ -23,9 +23,15 @@ abbrev pub count_in : Option Count → ℕ
 count_in None = 0
 count_in (Some count) = count.count
 
--- how often a value stands
+-- the number that stands for a value
 abbrev pub count_at : Value → List Count → ℕ
 count_at v counts = count_in (ordered.at value_cmp value_of v counts)
+
+-- how often a value stands; NULL isn't counted
+abbrev pub count_of : Value → List Count → ℕ
+count_of Null counts = 0
+count_of (Int n) counts = count_at (Int n) counts
+count_of (Text t) counts = count_at (Text t) counts
 
 -- a value with how often it stands; none where it doesn't
 abbrev pub count_entry : Value → ℕ → Option Count
@@ -39,17 +45,11 @@ put_count v count = ordered.put value_cmp value_of v (count_entry v count)
 abbrev pub one_up : ℕ → ℕ
 one_up n = min (n + 1) (2 ^ 64 - 1)
 
--- the counts with a value once more, or once less; NULL isn't counted
-abbrev pub counts_more : Value → List Count → List Count
-counts_more Null counts = counts
-counts_more (Int n) counts = put_count (Int n) (one_up (count_at (Int n) counts)) counts
-counts_more (Text t) counts = put_count (Text t) (one_up (count_at (Text t) counts)) counts
-
--- the counts with a value once less
-abbrev pub counts_less : Value → List Count → List Count
-counts_less Null counts = counts
-counts_less (Int n) counts = put_count (Int n) (count_at (Int n) counts - 1) counts
-counts_less (Text t) counts = put_count (Text t) (count_at (Text t) counts - 1) counts
+-- the counts with a value so often; NULL isn't counted
+abbrev pub counts_with : Value → ℕ → List Count → List Count
+counts_with Null count counts = counts
+counts_with (Int n) count counts = put_count (Int n) count counts
+counts_with (Text t) count counts = put_count (Text t) count counts
 
 -- the least value that stands there: what MIN gives
 abbrev pub first_value : List Count → Option Value

@@ -2,8 +2,8 @@
 use Rattle.std.specs.Prelude.{ℕ, ℤ, List}
 use Rattle.groups.specs.Counts.{Count}
 
--- how many rows there are, and of a column's values that are not NULL how many, their sum, and how often each stands,
--- where a value and no number is asked for
+-- how many rows there are; of a column's values that are not NULL how many and their sum, with DISTINCT of each value
+-- once; and how often each stands, where DISTINCT or one of the values is asked for
 pub record Figures : Type 0 where
   pub rows : ℕ
   pub there : ℕ

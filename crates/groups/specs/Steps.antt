@@ -1,5 +1,5 @@
 -- How totals are carried on as one row comes or goes. Numbers stop at the largest of their width.
-use Rattle.std.specs.Prelude.{ℕ, ◌==◌, ◌+◌, ◌-◌, ◌^◌, min, pos, ◌+ℤ◌, ◌-ℤ◌, List, [], Option, Some, None, if◌then◌else◌, unwrap_or}
+use Rattle.std.specs.Prelude.{ℕ, Bool, true, ◌==◌, ◌+◌, ◌-◌, ◌^◌, min, ℤ, pos, ◌+ℤ◌, ◌-ℤ◌, List, [], Option, Some, None, if◌then◌else◌, unwrap_or}
 use Rattle.std.specs.Int.{w128, saturate_signed}
 use Rattle.value.specs.declared.values.Value.{Value}
 use Rattle.value.specs.declared.values.Value.TheVariants.{Null, Int, Text}
@@ -8,9 +8,9 @@ use Rattle.value.specs.Ordered as ordered
 use Rattle.table.specs.Aggregates.{number_of}
 use Rattle.table.specs.declared.aggregates.Aggregate.{Aggregate}
 use Rattle.groups.specs.declared.members.Member.{Member}
-use Rattle.groups.specs.Counts.{Count, one_up, counts_more, counts_less}
+use Rattle.groups.specs.Counts.{Count, count_of, one_up, counts_with}
 use Rattle.groups.specs.Figures.{Figures}
-use Rattle.groups.specs.Totals.{Entry, Entries, group_in, is_extreme, total_at}
+use Rattle.groups.specs.Totals.{Entry, Entries, group_in, is_distinct, keeps_values, total_at}
 
 -- the total of no rows
 abbrev pub no_figures : Figures
@@ -22,30 +22,42 @@ there_of Null = 0
 there_of (Int n) = 1
 there_of (Text t) = 1
 
--- the counts with a value once more, or once less, where one of the values is asked for
-abbrev pub values_more : Aggregate → Value → List Count → List Count
-values_more asked v counts = if is_extreme asked then counts_more v counts else counts
+-- how often a value stands, where the values are kept
+abbrev pub stands : Aggregate → Value → List Count → ℕ
+stands asked v counts = if keeps_values asked then count_of v counts else 0
 
--- the counts with a value once less, where one of the values is asked for
-abbrev pub values_less : Aggregate → Value → List Count → List Count
-values_less asked v counts = if is_extreme asked then counts_less v counts else counts
+-- the counts with a value so often, where the values are kept
+abbrev pub values_with : Aggregate → Value → ℕ → List Count → List Count
+values_with asked v count counts = if keeps_values asked then counts_with v count counts else counts
+
+-- whether a set function takes a value that so many other rows have: with DISTINCT only where none of them has it
+abbrev pub is_taken : Aggregate → ℕ → Bool
+is_taken asked others = if is_distinct asked then others == 0 else true
+
+-- by how much the number of values that are not NULL changes with a value, which is taken or not
+abbrev pub there_if : Bool → Value → ℕ
+there_if taken v = if taken then there_of v else 0
+
+-- by how much the sum changes
+abbrev pub number_if : Bool → Value → ℤ
+number_if taken v = if taken then number_of v else pos 0
 
 -- the total with one row more, or one less, by its value
 abbrev pub one_more : Aggregate → Value → Figures → Figures
 one_more asked v t = record {
   rows = one_up t.rows;
-  there = min (t.there + there_of v) (2 ^ 64 - 1);
-  sum = saturate_signed w128 (t.sum +ℤ number_of v);
-  values = values_more asked v t.values;
+  there = min (t.there + there_if (is_taken asked (stands asked v t.values)) v) (2 ^ 64 - 1);
+  sum = saturate_signed w128 (t.sum +ℤ number_if (is_taken asked (stands asked v t.values)) v);
+  values = values_with asked v (one_up (stands asked v t.values)) t.values;
 }
 
 -- the total with one row less, by its value
 abbrev pub one_less : Aggregate → Value → Figures → Figures
 one_less asked v t = record {
   rows = t.rows - 1;
-  there = t.there - there_of v;
-  sum = saturate_signed w128 (t.sum -ℤ number_of v);
-  values = values_less asked v t.values;
+  there = t.there - there_if (is_taken asked (stands asked v t.values - 1)) v;
+  sum = saturate_signed w128 (t.sum -ℤ number_if (is_taken asked (stands asked v t.values - 1)) v);
+  values = values_with asked v (stands asked v t.values - 1) t.values;
 }
 
 -- the entries with this one for a group, or none

@@ -1,13 +1,13 @@
 -- Totals: of the values of one group's rows, and of all groups; and the groups before and after a row goes or comes.
-use Rattle.std.specs.Prelude.{◌≡◌, ◌≤◌, ◌<◌, ◌^◌, Bool, true, false, ◌&&◌, List, [], ◌∷◌, ◌++◌, length, count_by, All, Option, Some, None}
+use Rattle.std.specs.Prelude.{◌≡◌, ◌≤◌, ◌<◌, ◌^◌, Bool, true, false, ◌&&◌, ◌||◌, if◌then◌else◌, List, [], ◌∷◌, ◌++◌, length, count_by, All, Option, Some, None}
 use Rattle.std.specs.Option.{option_map}
 use Rattle.std.specs.Ordering.{eq_by_cmp}
 use Rattle.value.specs.declared.values.Value.{Value}
 use Rattle.value.specs.ValueOrder.{value_cmp}
 use Rattle.value.specs.Ordered as ordered
 use Rattle.table.specs.declared.aggregates.Aggregate.{Aggregate}
-use Rattle.table.specs.declared.aggregates.Aggregate.TheVariants.{CountRows, Count as CountOf, Sum, Min, Max}
-use Rattle.table.specs.Aggregates.{is_there, sum_of}
+use Rattle.table.specs.declared.aggregates.Aggregate.TheVariants.{CountRows, Count as CountOf, CountDistinct, Sum, SumDistinct, Min, Max}
+use Rattle.table.specs.Aggregates.{is_there, distinct, sum_of}
 use Rattle.table.specs.Slots.{magnitude}
 use Rattle.groups.specs.declared.members.Member.{Member}
 use Rattle.groups.specs.Counts.{Count, value_of, count_at}
@@ -23,22 +23,42 @@ pub record AreCountsOf (vs : List Value) (counts : List Count) : Type 0 where
 abbrev pub is_extreme : Aggregate → Bool
 is_extreme CountRows = false
 is_extreme (CountOf column) = false
+is_extreme (CountDistinct column) = false
 is_extreme (Sum column) = false
+is_extreme (SumDistinct column) = false
 is_extreme (Min column) = true
 is_extreme (Max column) = true
 
--- the values are counted, each for itself, where one of them is asked for
+-- whether a set function takes each value once
+abbrev pub is_distinct : Aggregate → Bool
+is_distinct CountRows = false
+is_distinct (CountOf column) = false
+is_distinct (CountDistinct column) = true
+is_distinct (Sum column) = false
+is_distinct (SumDistinct column) = true
+is_distinct (Min column) = false
+is_distinct (Max column) = false
+
+-- the values that a set function takes
+abbrev pub taken : Aggregate → List Value → List Value
+taken asked vs = if is_distinct asked then distinct vs else vs
+
+-- whether it is kept how often each value stands: where a row goes, numbers and a sum do not tell what is left
+abbrev pub keeps_values : Aggregate → Bool
+keeps_values asked = is_extreme asked || is_distinct asked
+
+-- the values are counted, each for itself, where they are kept
 abbrev pub AreCountsIf : Bool → List Value → List Count → Type 0
 AreCountsIf false vs counts = Unit {0}
 AreCountsIf true vs counts = AreCountsOf vs counts
 
--- the total of a list of values, one for each row, for a set function: how many rows, how many values are not NULL and
--- their sum, and, where one of the values is asked for, how often each stands
+-- the total of a list of values, one for each row, for a set function: how many rows; of the values that it takes how
+-- many are not NULL and their sum; and, where the values are kept, how often each stands
 pub record IsTotalOf (asked : Aggregate) (vs : List Value) (t : Figures) : Type 0 where
   pub rows : t.rows ≡ length vs
-  pub there : t.there ≡ count_by is_there vs
-  pub sum : t.sum ≡ sum_of vs
-  pub values : AreCountsIf (is_extreme asked) vs t.values
+  pub there : t.there ≡ count_by is_there (taken asked vs)
+  pub sum : t.sum ≡ sum_of (taken asked vs)
+  pub values : AreCountsIf (keeps_values asked) vs t.values
 
 -- a group and its total
 pub record Entry : Type 0 where

@@ -2,7 +2,7 @@
 
 ghost use Rattle.std.specs.Prelude.{◌≡◌, ◌==◌, [], None, Some, IfOk, if◌then◌else◌};
 ghost use Rattle.std.specs.Option.{option_copied};
-ghost use Rattle.groups.specs.Counts.{count_at, put_count, counts_more, counts_less, first_value, last_value};
+ghost use Rattle.groups.specs.Counts.{count_at, count_of, put_count, counts_with, first_value, last_value};
 
 use pages::Pages;
 use std::alloc::{AllocError, Global};
@@ -34,39 +34,35 @@ impl Counts {
         }
     }
 
-    /// The values with this one once more. NULL isn't counted.
-    pub fn more(&self, value: &Value) -> Result<Counts, AllocError>
-        ensures { IfOk result (λ counts. counts ≡ counts_more value.now self.now) }
+    /// How often a value stands. NULL isn't counted.
+    pub fn count(&self, value: &Value) -> u64
+        ensures { result ≡ count_of value.now self.now }
     {
         match value {
-            Value::Null => self.copy(),
-            Value::Int(_) | Value::Text(_) => {
-                self.with(value, self.count(value).saturating_add(1))
-            }
+            Value::Null => 0,
+            Value::Int(_) | Value::Text(_) => self.number(value),
         }
     }
 
-    /// The values with this one once less. NULL isn't counted.
-    pub fn less(&self, value: &Value) -> Result<Counts, AllocError>
-        ensures { IfOk result (λ counts. counts ≡ counts_less value.now self.now) }
+    /// The values with this one so often. NULL isn't counted.
+    pub fn with(&self, value: &Value, count: u64) -> Result<Counts, AllocError>
+        ensures { IfOk result (λ counts. counts ≡ counts_with value.now count self.now) }
     {
         match value {
             Value::Null => self.copy(),
-            Value::Int(_) | Value::Text(_) => {
-                self.with(value, self.count(value).saturating_sub(1))
-            }
+            Value::Int(_) | Value::Text(_) => self.put(value, count),
         }
     }
 
-    /// How often a value stands.
-    fn count(&self, value: &Value) -> u64
+    /// The number that stands for a value, 0 where none does.
+    fn number(&self, value: &Value) -> u64
         ensures { result ≡ count_at value.now self.now }
     {
         self.pages.get(value).copied().unwrap_or(0)
     }
 
-    /// The values with this one so often.
-    fn with(&self, value: &Value, number: u64) -> Result<Counts, AllocError>
+    /// The values with this number for one.
+    fn put(&self, value: &Value, number: u64) -> Result<Counts, AllocError>
         ensures { IfOk result (λ counts. counts ≡ put_count value.now number self.now) }
     {
         Ok(Counts {

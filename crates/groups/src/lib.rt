@@ -3,11 +3,12 @@
 //!
 //! A *set function* (ISO/IEC 9075:1992, set function specification) gives one value of the rows of a group: COUNT(*)
 //! how many rows there are; COUNT, SUM, MIN and MAX of a column look only at its values that are not NULL, and of
-//! none of them COUNT is 0 and the others are NULL. Evaluated from scratch they read the whole group. Here each group
-//! has a `Total` that is carried on as one row goes or comes (incremental view maintenance: Gupta, Mumick and
-//! Subrahmanian, "Maintaining Views Incrementally", 1993): the number of rows, the number of values that are not
-//! NULL and their sum; and for MIN and MAX alone the multiset of the values, since the least one may go and the next
-//! one has then to be known.
+//! none of them COUNT is 0 and the others are NULL. COUNT and SUM with DISTINCT take each value once. Evaluated from
+//! scratch they read the whole group. Here each group has a `Total` that is carried on as one row goes or comes
+//! (incremental view maintenance: Gupta, Mumick and Subrahmanian, "Maintaining Views Incrementally", 1993): the number
+//! of rows, the number of values that are not NULL and their sum; and for MIN, MAX and DISTINCT alone the multiset of
+//! the values, each with how often it stands. The least one may go, and the next one has then to be known; and with
+//! DISTINCT the number and the sum change only with the first row that has a value, and with the last.
 //!
 //! - A group is named by a value, and NULL is one like another, as GROUP BY wants it. Its rows count by one value
 //!   each, that of the column under the set function.
@@ -20,11 +21,11 @@
 //!
 //! What the layer above may rest on: totals of some groups for a set function are, after `with`, those of the groups
 //! with that change; what stands for a group is the total of its rows, and nothing stands for a group without rows;
-//! what a set function gives by them is what it gives of the group's rows from scratch, MIN and MAX after removals
-//! too; `get` takes no memory; a copy is equal to its original; and calls fail only where memory runs out. No call has
-//! a premise: the contract of `with` says what follows where the groups after it are within bounds, which are fewer
-//! than 2^63 rows with numbers within 10^15. There no number passes its width (a sum stays within 2^113), and what is
-//! answered fits a slot of a condition.
+//! what a set function gives by them is what it gives of the group's rows from scratch, after removals too, where MIN,
+//! MAX and DISTINCT have to know which values are left; `get` takes no memory; a copy is equal to its original; and
+//! calls fail only where memory runs out. No call has a premise: the contract of `with` says what follows where the
+//! groups after it are within bounds, which are fewer than 2^63 rows with numbers within 10^15. There no number passes
+//! its width (a sum stays within 2^113), and what is answered fits a slot of a condition.
 //!
 //! That the groups of a table's rows have such a change wherever the table has a changed row, and are within bounds
 //! where its rows are, is the law [`members_follow_rows`]; and that a column makes the groups of GROUP BY is
@@ -37,7 +38,8 @@
 //!
 //! Totals stand under their groups in a `pages::DifferentialMap`: totals that differ by a few are noted beside those
 //! that are shared, until [`Totals::settle`] finds that nobody shares them. The values of a multiset stand in
-//! `pages::Pages`, each with its number: for MIN and MAX a change copies the path to one value, and shares the rest.
+//! `pages::Pages`, each with its number: for MIN, MAX and DISTINCT a change looks one value up and copies the path to
+//! it, and shares the rest.
 //!
 //! Beside totals, which say how many rows a group has, an [`Index`] says which ones: for each value in a column the
 //! keys of the rows that have it there, in order. It is a *secondary index* (Comer, "The Ubiquitous B-Tree", 1979):

@@ -7,9 +7,9 @@ ghost use Rattle.table.specs.declared.aggregates.Aggregate.{Aggregate as functio
 ghost use Rattle.table.specs.Rows.{RowValues};
 ghost use Rattle.table.specs.Kinds.{kind_of_aggregate};
 ghost use Rattle.table.specs.Slots.{IsWithinKind, kind_of, value_of};
-ghost use Rattle.groups.specs.Answers.{answer_from, value_for};
-ghost use Rattle.groups.specs.Steps.{no_figures, there_of, one_more, one_less, values_more as values_more_of, values_less as values_less_of};
-ghost use Rattle.groups.specs.Totals.{is_extreme as is_extreme_of, IsTotalOf, IsWithin};
+ghost use Rattle.groups.specs.Answers.{answer_from, sum_from, value_for};
+ghost use Rattle.groups.specs.Steps.{no_figures, there_of, there_if, number_if, one_more, one_less, stands as stands_of, values_with as values_with_of, is_taken as is_taken_of};
+ghost use Rattle.groups.specs.Totals.{keeps_values as keeps_values_of, IsTotalOf, IsWithin};
 
 use crate::counts::Counts;
 use std::alloc::{AllocError, Global};
@@ -18,7 +18,7 @@ use table::{Aggregate, SlotValue};
 use value::{Copied, Value};
 
 /// What a set function needs of a group's rows: how many there are, and of their values that are not NULL how many and
-/// their sum; and for MIN and MAX how often each of them stands.
+/// their sum, with DISTINCT of each value once; and for MIN, MAX and DISTINCT how often each of them stands.
 #[derive(Debug, Drop)]
 pub struct Total {
     rows: u64,
@@ -83,9 +83,8 @@ impl Total {
     {
         match aggregate {
             Aggregate::CountRows => Ok(SlotValue::Count(self.rows)),
-            Aggregate::Count(_) => Ok(SlotValue::Count(self.there)),
-            Aggregate::Sum(_) if self.there == 0 => Ok(SlotValue::Sum(None)),
-            Aggregate::Sum(_) => Ok(SlotValue::Sum(Some(self.sum))),
+            Aggregate::Count(_) | Aggregate::CountDistinct(_) => Ok(SlotValue::Count(self.there)),
+            Aggregate::Sum(_) | Aggregate::SumDistinct(_) => Ok(self.sum_or_null()),
             Aggregate::Min(_) => match self.values.least() {
                 Some(value) => Ok(SlotValue::Extreme(value.copy()?)),
                 None => Ok(SlotValue::Extreme(Value::Null)),
@@ -95,6 +94,16 @@ impl Total {
                 None => Ok(SlotValue::Extreme(Value::Null)),
             },
         }
+    }
+
+    /// The sum, where a value is there.
+    fn sum_or_null(&self) -> SlotValue
+        ensures { result ≡ sum_from self.now }
+    {
+        if self.there == 0 {
+            return SlotValue::Sum(None);
+        }
+        SlotValue::Sum(Some(self.sum))
     }
 
     /// The total with one row more, which has this value, for the set function that is asked for. This one stays as it
@@ -111,11 +120,13 @@ impl Total {
     pub(crate) fn more(&self, asked: Aggregate, value: &Value) -> Result<Total, AllocError>
         ensures { IfOk result (λ total. total ≡ one_more asked value.now self.now) }
     {
+        let others = self.stands(asked, value);
+        let comes = is_taken(asked, others);
         Ok(Total {
             rows: self.rows.saturating_add(1),
-            there: self.there.saturating_add(there(value)),
-            sum: self.sum.saturating_add(number(value)),
-            values: values_more(&self.values, asked, value)?,
+            there: self.there.saturating_add(there(comes, value)),
+            sum: self.sum.saturating_add(number(comes, value)),
+            values: self.values_with(asked, value, others.saturating_add(1))?,
         })
     }
 
@@ -123,12 +134,36 @@ impl Total {
     pub(crate) fn less(&self, asked: Aggregate, value: &Value) -> Result<Total, AllocError>
         ensures { IfOk result (λ total. total ≡ one_less asked value.now self.now) }
     {
+        let others = self.stands(asked, value).saturating_sub(1);
+        let goes = is_taken(asked, others);
         Ok(Total {
             rows: self.rows.saturating_sub(1),
-            there: self.there.saturating_sub(there(value)),
-            sum: self.sum.saturating_sub(number(value)),
-            values: values_less(&self.values, asked, value)?,
+            there: self.there.saturating_sub(there(goes, value)),
+            sum: self.sum.saturating_sub(number(goes, value)),
+            values: self.values_with(asked, value, others)?,
         })
+    }
+
+    /// How often a value stands, where the values are kept; else 0, and nothing is looked up.
+    fn stands(&self, asked: Aggregate, value: &Value) -> u64
+        ensures { result ≡ stands_of asked value.now self.now.values }
+    {
+        if keeps_values(asked) {
+            self.values.count(value)
+        } else {
+            0
+        }
+    }
+
+    /// The values with this one so often, where they are kept.
+    fn values_with(&self, asked: Aggregate, value: &Value, count: u64) -> Result<Counts, AllocError>
+        ensures { IfOk result (λ counts. counts ≡ values_with_of asked value.now count self.now.values) }
+    {
+        if keeps_values(asked) {
+            self.values.with(value, count)
+        } else {
+            self.values.copy()
+        }
     }
 
     /// A total equal to this one, which shares all values with it.
@@ -150,54 +185,45 @@ impl Copied for Total {
     }
 }
 
-/// The values with this one once more, where one of them is asked for.
-fn values_more(values: &Counts, asked: Aggregate, value: &Value) -> Result<Counts, AllocError>
-    ensures { IfOk result (λ counts. counts ≡ values_more_of asked value.now values.now) }
-{
-    if is_extreme(asked) {
-        values.more(value)
-    } else {
-        values.copy()
-    }
-}
-
-/// The values with this one once less, where one of them is asked for.
-fn values_less(values: &Counts, asked: Aggregate, value: &Value) -> Result<Counts, AllocError>
-    ensures { IfOk result (λ counts. counts ≡ values_less_of asked value.now values.now) }
-{
-    if is_extreme(asked) {
-        values.less(value)
-    } else {
-        values.copy()
-    }
-}
-
-/// Whether a set function gives one of the values, the least or the greatest, and no number.
-fn is_extreme(aggregate: Aggregate) -> bool
-    ensures { result ≡ is_extreme_of aggregate }
+/// Whether a set function needs to know how often each value stands: what is the least once the least one went, and
+/// whether another row has a value that goes.
+fn keeps_values(aggregate: Aggregate) -> bool
+    ensures { result ≡ keeps_values_of aggregate }
 {
     match aggregate {
         Aggregate::CountRows | Aggregate::Count(_) | Aggregate::Sum(_) => false,
+        Aggregate::CountDistinct(_) | Aggregate::SumDistinct(_) => true,
         Aggregate::Min(_) | Aggregate::Max(_) => true,
     }
 }
 
-/// How many values that are not NULL a value is.
-fn there(value: &Value) -> u64
-    ensures { result ≡ there_of value.now }
+/// Whether a set function takes a value that so many other rows have: with DISTINCT only where none of them has it.
+fn is_taken(aggregate: Aggregate, others: u64) -> bool
+    ensures { result ≡ is_taken_of aggregate others }
 {
-    match value {
-        Value::Null => 0,
-        Value::Int(_) | Value::Text(_) => 1,
+    match aggregate {
+        Aggregate::CountDistinct(_) | Aggregate::SumDistinct(_) => others == 0,
+        Aggregate::CountRows | Aggregate::Count(_) | Aggregate::Sum(_) => true,
+        Aggregate::Min(_) | Aggregate::Max(_) => true,
     }
 }
 
-/// The number that a value is, 0 where it is none.
-fn number(value: &Value) -> i128
-    ensures { result ≡ number_of value.now }
+/// How many values that are not NULL a value is, if it is taken.
+fn there(taken: bool, value: &Value) -> u64
+    ensures { result ≡ there_if taken value.now }
 {
     match value {
-        Value::Int(number) => i128::from(*number),
-        Value::Null | Value::Text(_) => 0,
+        Value::Int(_) | Value::Text(_) if taken => 1,
+        Value::Null | Value::Int(_) | Value::Text(_) => 0,
+    }
+}
+
+/// The number that a value is, if it is taken and is one; else 0.
+fn number(taken: bool, value: &Value) -> i128
+    ensures { result ≡ number_if taken value.now }
+{
+    match value {
+        Value::Int(number) if taken => i128::from(*number),
+        Value::Null | Value::Int(_) | Value::Text(_) => 0,
     }
 }

@@ -1,5 +1,7 @@
 //! The names of columns, and what is written with them.
 
+ghost use Rattle.syntax.specs.Reading as rd;
+ghost use Rattle.syntax.specs.Grammar as spec;
 ghost use Rattle.syntax.specs.Readers as reader;
 ghost use Rattle.leaf_parser.specs.Reads.{Reads};
 
@@ -8,7 +10,7 @@ use crate::loops::Part;
 use crate::names::{name_of, parse_name};
 use crate::stops::Stop;
 use std::alloc::Global;
-use syntax::{Aggregate, ColumnName, Expression};
+use syntax::{Aggregate, Argument, ColumnName, Expression, SetQuantifier};
 use token::Kind;
 use value::Text;
 
@@ -71,25 +73,55 @@ pub fn parse_group_by(alloc: Global, cursor: &mut Cursor<'_>) -> Result<Option<C
     Ok(Some(parse_column(alloc, cursor)?))
 }
 
-/// The name of a column, as what may stand in parentheses.
-#[derive(Drop)]
-pub struct NamedColumn(pub Global);
+/// A set function's argument, whose set quantifier is read.
+fn parse_quantified(
+    alloc: Global,
+    cursor: &mut Cursor<'_>,
+    quantifier: SetQuantifier,
+) -> Result<Argument, Stop>
+    ensures { Reads (rd.◌<$>◌ (spec.argument_of quantifier) reader.column cursor.old) result cursor.new }
+{
+    let column = parse_column(alloc, cursor)?;
+    Ok(Argument { quantifier, column })
+}
 
-impl Part for NamedColumn {
-    ghost use Rattle.syntax.specs.Readers as reader;
-
-    type Tree = ColumnName;
-
-    ghost ready = { λ _. Unit {0} };
-
-    ghost reader = { λ _. reader.column };
-
-    fn parse(&self, cursor: &mut Cursor<'_>) -> Result<ColumnName, Stop> {
-        parse_column(self.0, cursor)
+/// What a set function is of: `[ALL | DISTINCT] column`.
+#[tactic(auto, unfolding(syntax::specs::Readers::argument))]
+pub fn parse_argument(alloc: Global, cursor: &mut Cursor<'_>) -> Result<Argument, Stop>
+    ensures { Reads (reader.argument cursor.old) result cursor.new }
+{
+    match cursor.peek() {
+        Kind::All => {
+            cursor.take(Kind::All);
+            parse_quantified(alloc, cursor, SetQuantifier::All)
+        }
+        Kind::Distinct => {
+            cursor.take(Kind::Distinct);
+            parse_quantified(alloc, cursor, SetQuantifier::Distinct)
+        }
+        _ => parse_quantified(alloc, cursor, SetQuantifier::All),
     }
 }
 
-/// What stands in the parentheses of COUNT: `*`, or the name of a column.
+/// What a set function is of, as what may stand in parentheses.
+#[derive(Drop)]
+pub struct SetFunctionArgument(pub Global);
+
+impl Part for SetFunctionArgument {
+    ghost use Rattle.syntax.specs.Readers as reader;
+
+    type Tree = Argument;
+
+    ghost ready = { λ _. Unit {0} };
+
+    ghost reader = { λ _. reader.argument };
+
+    fn parse(&self, cursor: &mut Cursor<'_>) -> Result<Argument, Stop> {
+        parse_argument(self.0, cursor)
+    }
+}
+
+/// What stands in the parentheses of COUNT: `*`, or the argument of a set function.
 #[derive(Drop)]
 pub struct CountArgument(pub Global);
 
@@ -109,7 +141,7 @@ impl Part for CountArgument {
                 cursor.take(Kind::Star);
                 Ok(Expression::CountRows)
             }
-            _ => Ok(Expression::Aggregate(Aggregate::Count, parse_column(self.0, cursor)?)),
+            _ => Ok(Expression::Aggregate(Aggregate::Count, parse_argument(self.0, cursor)?)),
         }
     }
 }

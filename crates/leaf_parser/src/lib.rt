@@ -14,13 +14,13 @@
 //! its bytes and where it begins. It lends the bytes of the text, so a token is copied only where a
 //! tree keeps its name or its text.
 //!
-//! What stands here has no parentheses: names and columns, numbers with their signs, texts, the
-//! signs of comparisons. And what every layer above needs stands here once, over the trait [`Part`] of
-//! what parses a part: [`parse_many`] parts one behind the other, a [`parse_list`] with commas, [`parse_parens`] around
-//! a part, and [`parse_joined`], the tree of a list of parts, in which a part of the same kind is merged into
-//! the list around it ([`Joint`]). Parts need not be kept: [`collect_many`] puts each into a [`Collection`] as soon as
-//! it is found, which may be a list, or what is made of each part at once. `proofs/Turns.antt` has the laws by which
-//! loops and parentheses meet their readers.
+//! What stands here has no parentheses: names and columns, the arguments of set functions, numbers with their
+//! signs, texts, the signs of comparisons. And what every layer above needs stands here once, over the trait
+//! [`Part`] of what parses a part: [`parse_many`] parts one behind the other, a [`parse_list`] with commas,
+//! [`parse_parens`] around a part, and [`parse_joined`], the tree of a list of parts, in which a part of the same
+//! kind is merged into the list around it ([`Joint`]). Parts need not be kept: [`collect_many`] puts each into a
+//! [`Collection`] as soon as it is found, which may be a list, or what is made of each part at once.
+//! `proofs/Turns.antt` has the laws by which loops and parentheses meet their readers.
 //!
 //! A token whose kind was looked at is taken by [`Cursor::take`], which cannot fail. Where the parser
 //! stops, what it had read is let go by [`drop_and_stop`]: a type parameter hides how large it is, and a `?`
@@ -36,7 +36,8 @@ mod signs;
 mod stops;
 
 pub use columns::{
-    CountArgument, NamedColumn, parse_column, parse_correlation_name, parse_group_by,
+    CountArgument, SetFunctionArgument, parse_argument, parse_column, parse_correlation_name,
+    parse_group_by,
 };
 pub use cursors::{Cursor, Piece};
 pub use loops::{

@@ -250,7 +250,7 @@ set_layer scope (Expression-F.Number n) e = cc
 set_layer scope (Expression-F.Text t) e = cc
 set_layer scope (Expression-F.Column c) e = cc
 set_layer scope Expression-F.CountRows e = tt
-set_layer scope (Expression-F.Aggregate f c) e = sym (some_mapped (of_column f) (own_column scope c)) ∙ e
+set_layer scope (Expression-F.Aggregate f a) e = sym (some_mapped (of_column f a.quantifier) (own_column scope a.column)) ∙ e
 set_layer scope (Expression-F.Subquery query) e = cc
 set_layer scope (Expression-F.Negation part) e = cc
 set_layer scope (Expression-F.Sum parts) e = cc
@@ -261,7 +261,7 @@ layer_set scope (Expression-F.Number n) h = absurd h
 layer_set scope (Expression-F.Text t) h = absurd h
 layer_set scope (Expression-F.Column c) h = absurd h
 layer_set scope Expression-F.CountRows h = refl
-layer_set scope (Expression-F.Aggregate f c) h = some_mapped (of_column f) (own_column scope c) ∙ h
+layer_set scope (Expression-F.Aggregate f a) h = some_mapped (of_column f a.quantifier) (own_column scope a.column) ∙ h
 layer_set scope (Expression-F.Subquery query) h = absurd h
 layer_set scope (Expression-F.Negation part) h = absurd h
 layer_set scope (Expression-F.Sum parts) h = absurd h
@@ -342,16 +342,17 @@ class_single tables c h =
 
 set_leaf : (scope : Scope) (p : Piece) → Answers (aggregate_of scope (leaf_of p)) → IsSetFunction scope p
 set_leaf scope class.Rows h = tt
-set_leaf scope (class.Of f column) (a, e) =
-    let (c, (is, makes)) = in_class_ok (own_column scope column) (λ c. let r : Result Aggregate Refusal = Ok (of_column f c) in r) a e in ap is_some is
+set_leaf scope (class.Of f argument) (a, e) =
+    let (c, (is, makes)) = in_class_ok (own_column scope argument.column) (λ c. let r : Result Aggregate Refusal = Ok (of_column f argument.quantifier c) in r) a e in ap is_some is
 set_leaf scope (class.Exists query) (a, e) = cc
 set_leaf scope (class.Value query) (a, e) = cc
 
 leaf_set : (scope : Scope) (p : Piece) → IsSetFunction scope p → Answers (aggregate_of scope (leaf_of p))
 leaf_set scope class.Rows h = (CountRows, refl)
-leaf_set scope (class.Of f column) h =
-    let (c, is) = some_is (own_column scope column) h in
-    (of_column f c, ap (λ o. in_class o (λ c. let r : Result Aggregate Refusal = Ok (of_column f c) in r)) is)
+leaf_set scope (class.Of f argument) h =
+    let q = argument.quantifier in
+    let (c, is) = some_is (own_column scope argument.column) h in
+    (of_column f q c, ap (λ o. in_class o (λ c. let r : Result Aggregate Refusal = Ok (of_column f q c) in r)) is)
 leaf_set scope (class.Exists query) h = absurd h
 leaf_set scope (class.Value query) h = absurd h
 

@@ -28,6 +28,8 @@ use Rattle.table.proofs.EvalLemmas.{truth-And}
 use Rattle.assertion.specs.Meaning.{State}
 use Rattle.assertion.specs.declared.queries.Link.{Link}
 use Rattle.syntax.specs.declared.trees.Aggregate.TheVariants as function
+use Rattle.syntax.specs.declared.trees.SetQuantifier.TheVariants as quantifier
+use Rattle.syntax.specs.declared.trees.Argument.{Argument}
 use Rattle.syntax.specs.declared.trees.ColumnName.{ColumnName}
 use Rattle.syntax.specs.declared.trees.Condition.{Condition, roll-Condition, out-Condition, out-roll-Condition}
 use Rattle.syntax.specs.declared.trees.Condition.TheOpen.{Condition-F, Expression-F, SelectList-F, Query-F}
@@ -83,6 +85,9 @@ number n = Int (pos n)
 
 abbrev bare : ℕ → ColumnName
 bare name = record { qualifier = None; name = name ∷ [] }
+
+abbrev every : ℕ → Argument
+every name = record { quantifier = quantifier.All; column = bare name }
 
 abbrev of : ℕ → ℕ → ColumnName
 of qualifier name = record { qualifier = Some (qualifier ∷ []); name = name ∷ [] }
@@ -296,11 +301,11 @@ single_bad = single_roots crowd (roll-Expression Expression-F.CountRows) 4 False
 abbrev nobody : State
 nobody = [] ∷ [] ∷ []
 
-single_unknown : written_truth both nobody (at_most (roll-Expression (Expression-F.Aggregate function.Sum (bare I))) 4) ≡ Unknown
-single_unknown = single_truth nobody (roll-Expression (Expression-F.Aggregate function.Sum (bare I))) (record { sets = true; value = set_of_column function.Sum (bare I) }) 4 (set_is both nobody function.Sum (bare I))
+single_unknown : written_truth both nobody (at_most (roll-Expression (Expression-F.Aggregate function.Sum (every I))) 4) ≡ Unknown
+single_unknown = single_truth nobody (roll-Expression (Expression-F.Aggregate function.Sum (every I))) (record { sets = true; value = set_of_column function.Sum (every I) }) 4 (set_is both nobody function.Sum (every I))
 
-single_satisfied : written_bad_roots both nobody (at_most (roll-Expression (Expression-F.Aggregate function.Sum (bare I))) 4) ≡ []
-single_satisfied = single_roots nobody (roll-Expression (Expression-F.Aggregate function.Sum (bare I))) 4 Unknown single_unknown
+single_satisfied : written_bad_roots both nobody (at_most (roll-Expression (Expression-F.Aggregate function.Sum (every I))) 4) ≡ []
+single_satisfied = single_roots nobody (roll-Expression (Expression-F.Aggregate function.Sum (every I))) 4 Unknown single_unknown
 
 -- ---- the link of two
 

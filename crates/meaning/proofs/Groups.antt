@@ -1,28 +1,26 @@
 -- Assertions by groups.
 use Rattle.std.proofs.Common.{◌≡◌, ℕ, Bool, true, false, cond, Option, Some, None, Result, Ok, List, [], ◌∷◌, map, filter, refl, ap, sym, ◌∙◌, append-nil, arith}
-use Rattle.std.specs.Prelude.{◌||◌, ◌&&◌, not, ◌==◌, option_map, if◌then◌else◌}
+use Rattle.std.specs.Prelude.{◌||◌, ◌&&◌, ◌==◌, option_map, if◌then◌else◌}
 use Rattle.std.proofs.lemmas.List.Elements.{filter_agree}
 use Rattle.std.specs.Ordering.{eq_by_cmp}
-use Rattle.std.proofs.lemmas.Cmp.{tied_itself}
 use Rattle.std.proofs.lemmas.Bool.Decides.{nat_tests}
 use Rattle.std.proofs.lemmas.Option.{same_Some}
-use Rattle.std.proofs.Math.Bool.{and-false}
 use Rattle.std.proofs.lemmas.Bool.{or_right}
 use Rattle.value.specs.declared.values.Value.{Value}
 use Rattle.value.specs.declared.values.Root.{Root}
 use Rattle.value.specs.declared.values.Root.TheVariants.{All, Of}
 use Rattle.value.specs.declared.refusals.Refusal.{Refusal}
 use Rattle.value.specs.ValueOrder.{value_cmp, root_cmp}
-use Rattle.value.proofs.OrderedLists.{has, equal_from}
-use Rattle.value.proofs.ValueOrders.{value_cmp_total, value_exact}
+use Rattle.value.proofs.OrderedLists.{has}
 use Rattle.value.specs.declared.truths.Truth.TheVariants.{True}
 use Rattle.value.specs.Truths.{is_of}
 use Rattle.table.specs.Rows.{RowValues, Tables, value_in}
-use Rattle.table.specs.Aggregates.{aggregate, rows_of_group}
+use Rattle.table.specs.Aggregates.{distinct, aggregate, rows_of_group}
 use Rattle.table.specs.declared.aggregates.Aggregate.{Aggregate}
 use Rattle.table.specs.declared.aggregates.Aggregate.TheVariants.{CountRows}
 use Rattle.table.specs.declared.conds.Cond.{Cond}
 use Rattle.table.specs.Eval as resolved
+use Rattle.table.proofs.DistinctLemmas.{same_value, itself, has_filter, has_distinct}
 use Rattle.assertion.specs.Meaning.{State, filtered_rows, lists_group, group_roots}
 use Rattle.syntax.specs.declared.trees.ColumnName.{ColumnName}
 use Rattle.syntax.specs.declared.trees.Condition.{Condition}
@@ -34,7 +32,7 @@ use Rattle.form_check.specs.Leaves.{Leaf, Leaves, Rows, Of as SetOf, Exists, Val
 use Rattle.form_check.specs.Queries.{row_filter, of_column}
 use Rattle.form_check.specs.Forms.{aggregate_of}
 use Rattle.meaning.specs.Meaning as written
-use Rattle.meaning.specs.Meaning.{References, Evaluation, Answer, column_values, first_value, with_rows, passes, distinct, truth, root_of}
+use Rattle.meaning.specs.Meaning.{References, Evaluation, Answer, column_values, first_value, with_rows, passes, truth, root_of}
 use Rattle.meaning.specs.Laws.{reference_to}
 use Rattle.form_check.proofs.Steps.{in_class_ok, ok_same}
 use Rattle.meaning.proofs.Numbering.{leaf_value, condition_faithful, at_place_means}
@@ -50,38 +48,6 @@ map_agree f g same (x ∷ xs) = ap (λ y. y ∷ map f xs) (same x) ∙ ap (λ ys
 pub map_twice : {X Y Z : Type 0} (f : X → Y) (g : Y → Z) (xs : List X) → map g (map f xs) ≡ map (λ x. g (f x)) xs
 map_twice f g [] = refl
 map_twice f g (x ∷ xs) = ap (λ zs. g (f x) ∷ zs) (map_twice f g xs)
-
-pub same_value : (v w : Value) → eq_by_cmp value_cmp v w ≡ true → v ≡ w
-same_value v w e = value_exact v w (equal_from (value_cmp v w) e)
-
-pub itself : (v : Value) → eq_by_cmp value_cmp v v ≡ true
-itself v = rw (tied_itself value_cmp_total v) refl
-
--- a list's values, each once, are its values
-has_filtered : (t : Value → Bool) (w x : Value) (xs : List Value) → has value_cmp w (filter t xs) ≡ has value_cmp w xs && t w → (b : Bool) → t x ≡ b → (c : Bool) → eq_by_cmp value_cmp w x ≡ c
-    → has value_cmp w (cond b (x ∷ filter t xs) (filter t xs)) ≡ (c || has value_cmp w xs) && t w
-has_filtered t w x xs more true e true d = rw d (sym (ap t (same_value w x d) ∙ e))
-has_filtered t w x xs more true e false d = rw d more
-has_filtered t w x xs more false e true d =
-    let no : t w ≡ false = ap t (same_value w x d) ∙ e in
-    more ∙ ap (λ b. has value_cmp w xs && b) no ∙ and-false (has value_cmp w xs) ∙ sym no
-has_filtered t w x xs more false e false d = more
-
-has_filter : (t : Value → Bool) (w : Value) (xs : List Value) → has value_cmp w (filter t xs) ≡ has value_cmp w xs && t w
-has_filter t w [] = refl
-has_filter t w (x ∷ xs) = has_filtered t w x xs (has_filter t w xs) (t x) refl (eq_by_cmp value_cmp w x) refl
-
-one_more : (w v : Value) (b c : Bool) → eq_by_cmp value_cmp w v ≡ b → (d : Bool) → eq_by_cmp value_cmp v w ≡ d → b || (c && not d) ≡ b || c
-one_more w v true c e d f = refl
-one_more w v false c e true f = let k : false ≡ true = sym e ∙ ap (λ u. eq_by_cmp value_cmp w u) (same_value v w f) ∙ itself w in cc
-one_more w v false true e false f = refl
-one_more w v false false e false f = refl
-
-pub has_distinct : (w : Value) (vs : List Value) → has value_cmp w (distinct vs) ≡ has value_cmp w vs
-has_distinct w [] = refl
-has_distinct w (v ∷ vs) =
-    ap (λ b. eq_by_cmp value_cmp w v || b) (has_filter (λ u. not (eq_by_cmp value_cmp v u)) w (distinct vs) ∙ ap (λ b. b && not (eq_by_cmp value_cmp v w)) (has_distinct w vs))
-    ∙ one_more w v (eq_by_cmp value_cmp w v) (has value_cmp w vs) refl (eq_by_cmp value_cmp v w) refl
 
 has_of : (w : Value) (vs : List Value) → has root_cmp (Of w) (map Of vs) ≡ has value_cmp w vs
 has_of w [] = refl
@@ -126,9 +92,10 @@ passing group name p q (v ∷ vs) same =
 
 pub aggregate_leaf : (tables : Tables) (state : State) (scope : names.Scope) (rows : List RowValues) (leaf : Leaf) (a : Aggregate) → aggregate_of scope leaf ≡ Ok a → leaf_value tables state (reference_to scope rows ∷ []) leaf ≡ aggregate a rows
 aggregate_leaf tables state scope rows Rows a e = ap (λ (a : Aggregate). aggregate a rows) (ok_same CountRows a e)
-aggregate_leaf tables state scope rows (SetOf f column) a e =
-    let (c, (is, makes)) = in_class_ok (own_column scope column) (λ c. let r : Result Aggregate Refusal = Ok (of_column f c) in r) a e in
-    set_function_of f scope rows [] column c is ∙ ap (λ (a : Aggregate). aggregate a rows) (ok_same (of_column f c) a makes)
+aggregate_leaf tables state scope rows (SetOf f argument) a e =
+    let q = argument.quantifier in
+    let (c, (is, makes)) = in_class_ok (own_column scope argument.column) (λ c. let r : Result Aggregate Refusal = Ok (of_column f q c) in r) a e in
+    set_function_of f q scope rows [] argument.column c is ∙ ap (λ (a : Aggregate). aggregate a rows) (ok_same (of_column f q c) a makes)
 aggregate_leaf tables state scope rows (Exists query) a e = cc
 aggregate_leaf tables state scope rows (Worth query) a e = cc
 

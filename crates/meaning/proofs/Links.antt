@@ -48,7 +48,8 @@ use Rattle.form_check.proofs.Steps.{and_then_ok, in_class_ok, only_if_ok, ok_sam
 use Rattle.meaning.proofs.Numbering.{leaf_value, truth-And}
 use Rattle.meaning.proofs.Rows.{own_value, outer_column_is, outer_value, joint_condition_truth}
 use Rattle.meaning.proofs.Queries.{answers_by, answers_at, list_set, only_set}
-use Rattle.meaning.proofs.Groups.{map_twice, same_value, itself}
+use Rattle.table.proofs.DistinctLemmas.{same_value, itself}
+use Rattle.meaning.proofs.Groups.{map_twice}
 
 -- ---- lists of truths
 

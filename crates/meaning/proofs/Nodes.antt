@@ -9,6 +9,7 @@ use Rattle.table.specs.Rows.{Tables}
 use Rattle.table.specs.Values.{comparison_truth}
 use Rattle.assertion.specs.Meaning.{State}
 use Rattle.syntax.specs.declared.trees.Aggregate.{Aggregate}
+use Rattle.syntax.specs.declared.trees.Argument.{Argument}
 use Rattle.syntax.specs.declared.trees.ColumnName.{ColumnName}
 use Rattle.syntax.specs.declared.trees.Condition.{Condition, roll-Condition}
 use Rattle.syntax.specs.declared.trees.Condition.TheFolds.{map-Condition, map-Expression, map-SelectList, map-Query, fold-roll-Condition, fold-roll-Expression, fold-roll-SelectList, fold-roll-Query}
@@ -50,7 +51,7 @@ module _ (tables : Tables) (state : State) where
   pub count_is : evaluation_of tables state (roll-Expression Expression-F.CountRows) ≡ record { sets = true; value = rows_counted }
   count_is = expression_rolls Expression-F.CountRows
 
-  pub set_is : (f : Aggregate) (c : ColumnName) → evaluation_of tables state (roll-Expression (Expression-F.Aggregate f c)) ≡ record { sets = true; value = set_of_column f c }
+  pub set_is : (f : Aggregate) (c : Argument) → evaluation_of tables state (roll-Expression (Expression-F.Aggregate f c)) ≡ record { sets = true; value = set_of_column f c }
   set_is f c = expression_rolls (Expression-F.Aggregate f c)
 
   pub value_is : (q : Query) (a : References → List Answer) → answers tables state q ≡ a → evaluation_of tables state (roll-Expression (Expression-F.Subquery q)) ≡ simple (λ around. only_value (a around))

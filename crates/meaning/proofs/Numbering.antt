@@ -41,7 +41,7 @@ use Rattle.form_check.specs.Columns.{at_place}
 use Rattle.form_check.specs.Leaves.{Leaf, Leaves, Numbering, Rows, Of, Exists, Value as Worth, expression_of_column, slot, then_made, both, all, numbered, numbered_expression}
 use Rattle.form_check.specs.Leaves as leaves_of
 use Rattle.meaning.specs.Meaning as written
-use Rattle.meaning.specs.Meaning.{References, Evaluation, Answer, column_values, first_value, rows_at_hand, set_function, only_value, is_any, truth, evaluation_of, answers}
+use Rattle.meaning.specs.Meaning.{References, Evaluation, Answer, column_values, first_value, rows_at_hand, quantified, set_function, only_value, is_any, truth, evaluation_of, answers}
 use Rattle.form_check.proofs.Equations.{condition_rolled, expression_rolled}
 use Rattle.form_check.proofs.Steps.{and_then_ok, in_class_ok, then_ok, ok_pair, mapped_some}
 
@@ -51,7 +51,7 @@ module _ (tables : Tables) (state : State) (scopes : References) where
   -- what stands in a slot, as it is written
   abbrev pub leaf_value : Leaf → Value
   leaf_value Rows = value.Int (pos (length (rows_at_hand scopes)))
-  leaf_value (Of function column) = set_function function (filter is_there (column_values column scopes))
+  leaf_value (Of function argument) = set_function function (quantified argument.quantifier (filter is_there (column_values argument.column scopes)))
   leaf_value (Exists query) = value.Int (pos (length (answers tables state query scopes)))
   leaf_value (Worth query) = only_value (answers tables state query scopes)
 
@@ -254,7 +254,7 @@ module _ (tables : Tables) (state : State) (scopes : References) where
       expression_layer (Expression-F.Text t) = literal_faithful (value.Text t)
       expression_layer (Expression-F.Column column) = column_faithful column
       expression_layer Expression-F.CountRows = slot_faithful Rows
-      expression_layer (Expression-F.Aggregate function column) = slot_faithful (Of function column)
+      expression_layer (Expression-F.Aggregate function argument) = slot_faithful (Of function argument)
       expression_layer (Expression-F.Subquery query) = slot_faithful (Worth query.0)
       expression_layer (Expression-F.Negation part) = then_faithful (resolved.answer row slots) (resolved.answer row slots) expr_of.Negation sql.negative_of (λ a. sym (answer-Negation a)) ((evaluation_of tables state part.0).value scopes) (numbered_expression place part.0) part.1
       expression_layer (Expression-F.Sum parts) =

@@ -4,6 +4,7 @@ use Rattle.std.specs.Prelude.{◌||◌, is_some, unwrap_or, option_map}
 use Rattle.std.proofs.lemmas.List.Elements.{filter_agree}
 use Rattle.std.proofs.lemmas.Option.{same_Some}
 use Rattle.value.specs.declared.values.Value.{Value}
+use Rattle.value.specs.declared.values.Value.TheVariants.{Null}
 use Rattle.value.specs.declared.refusals.Refusal.{Refusal}
 use Rattle.value.specs.declared.truths.Truth.{Truth}
 use Rattle.table.specs.Rows.{RowValues, Layout, Tables, layout_of, position_of}
@@ -12,11 +13,14 @@ use Rattle.table.specs.declared.aggregates.Aggregate.{Aggregate}
 use Rattle.table.specs.declared.aggregates.Aggregate.TheVariants.{CountRows}
 use Rattle.table.specs.declared.conds.Cond.{Cond}
 use Rattle.table.specs.Eval as resolved
+use Rattle.table.proofs.DistinctLemmas.{least_distinct, greatest_distinct}
 use Rattle.assertion.specs.declared.queries.Query.{Query as Subquery}
 use Rattle.assertion.specs.declared.queries.Whole.{Whole}
 use Rattle.assertion.specs.Meaning.{State, rows_of, plain_answer}
 use Rattle.syntax.specs.declared.trees.Aggregate.{Aggregate as Function}
 use Rattle.syntax.specs.declared.trees.Aggregate.TheVariants as function
+use Rattle.syntax.specs.declared.trees.SetQuantifier.{SetQuantifier}
+use Rattle.syntax.specs.declared.trees.SetQuantifier.TheVariants.{All, Distinct}
 use Rattle.syntax.specs.declared.trees.ColumnName.{ColumnName}
 use Rattle.syntax.specs.declared.trees.Condition.{Condition}
 use Rattle.syntax.specs.declared.trees.Condition.TheOpen.{Expression-F, SelectList-F, Query-F}
@@ -31,7 +35,7 @@ use Rattle.form_check.specs.Leaves.{Leaf, Leaves, Rows, Of, Exists, Value as Wor
 use Rattle.form_check.specs.Queries.{Source, source_named, source_of, row_filter, of_column, aggregate_in, aggregate_selected, selected_aggregate}
 use Rattle.form_check.specs.Forms.{Clauses, plain, plain_by, plain_value}
 use Rattle.meaning.specs.Meaning as written
-use Rattle.meaning.specs.Meaning.{Reference, References, Evaluation, Answer, no_layout, rows_at, table_of, column_values, set_function, only_value, with_rows, passes, groups_of_rows, group_value, truth, evaluation_of, select_list, answers}
+use Rattle.meaning.specs.Meaning.{Reference, References, Evaluation, Answer, no_layout, rows_at, table_of, column_values, quantified, set_function, only_value, with_rows, passes, groups_of_rows, group_value, truth, evaluation_of, select_list, answers}
 use Rattle.meaning.specs.Laws.{reference_to}
 use Rattle.form_check.proofs.Steps.{and_then_ok, in_class_ok, ok_same, mapped_some}
 use Rattle.meaning.proofs.Numbering.{leaf_value}
@@ -98,16 +102,20 @@ answers_at tables state query source outer e =
 
 -- ---- set functions
 
-function_alike : (f : Function) (c : ℕ) (rows : List RowValues) → set_function f (values_in c rows) ≡ aggregate (of_column f c) rows
-function_alike function.Count c rows = refl
-function_alike function.Sum c rows = refl
-function_alike function.Min c rows = refl
-function_alike function.Max c rows = refl
+function_alike : (f : Function) (q : SetQuantifier) (c : ℕ) (rows : List RowValues) → set_function f (quantified q (values_in c rows)) ≡ aggregate (of_column f q c) rows
+function_alike function.Count All c rows = refl
+function_alike function.Count Distinct c rows = refl
+function_alike function.Sum All c rows = refl
+function_alike function.Sum Distinct c rows = refl
+function_alike function.Min All c rows = refl
+function_alike function.Min Distinct c rows = ap (λ o. unwrap_or o Null) (least_distinct (values_in c rows))
+function_alike function.Max All c rows = refl
+function_alike function.Max Distinct c rows = ap (λ o. unwrap_or o Null) (greatest_distinct (values_in c rows))
 
 -- a set function of a column of the rows at hand
-pub set_function_of : (f : Function) (scope : names.Scope) (rows : List RowValues) (outer : References) (column : ColumnName) (c : ℕ) → own_column scope column ≡ Some c
-    → set_function f (filter is_there (column_values column (reference_to scope rows ∷ outer))) ≡ aggregate (of_column f c) rows
-set_function_of f scope rows outer column c is = ap (λ vs. set_function f (filter is_there vs)) (own_values scope rows outer column c is) ∙ function_alike f c rows
+pub set_function_of : (f : Function) (q : SetQuantifier) (scope : names.Scope) (rows : List RowValues) (outer : References) (column : ColumnName) (c : ℕ) → own_column scope column ≡ Some c
+    → set_function f (quantified q (filter is_there (column_values column (reference_to scope rows ∷ outer)))) ≡ aggregate (of_column f q c) rows
+set_function_of f q scope rows outer column c is = ap (λ vs. set_function f (quantified q (filter is_there vs))) (own_values scope rows outer column c is) ∙ function_alike f q c rows
 
 -- an expression that is one set function
 abbrev IsSet : names.Scope → Aggregate → Evaluation → Type 0
@@ -119,9 +127,10 @@ set_in tables state scope a (Expression-F.Number n) e = cc
 set_in tables state scope a (Expression-F.Text t) e = cc
 set_in tables state scope a (Expression-F.Column column) e = cc
 set_in tables state scope a Expression-F.CountRows e = (refl, λ rows outer. ap (λ (a : Aggregate). aggregate a rows) (same_Some CountRows a e))
-set_in tables state scope a (Expression-F.Aggregate f column) e =
-    let (c, (is, same)) = mapped_some (of_column f) (own_column scope column) a e in
-    (refl, λ rows outer. set_function_of f scope rows outer column c is ∙ ap (λ (a : Aggregate). aggregate a rows) same)
+set_in tables state scope a (Expression-F.Aggregate f argument) e =
+    let q = argument.quantifier in
+    let (c, (is, same)) = mapped_some (of_column f q) (own_column scope argument.column) a e in
+    (refl, λ rows outer. set_function_of f q scope rows outer argument.column c is ∙ ap (λ (a : Aggregate). aggregate a rows) same)
 set_in tables state scope a (Expression-F.Subquery query) e = cc
 set_in tables state scope a (Expression-F.Negation part) e = cc
 set_in tables state scope a (Expression-F.Sum parts) e = cc

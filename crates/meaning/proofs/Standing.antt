@@ -44,7 +44,7 @@ expression_pieces_rolled layer = para-roll-Expression Pieces Pieces (Unit {0}) (
 -- a piece, as what stands in its slot
 abbrev pub leaf_of : Piece → Leaf
 leaf_of class.Rows = Rows
-leaf_of (class.Of function column) = Of function column
+leaf_of (class.Of function argument) = Of function argument
 leaf_of (class.Exists query) = Exists query
 leaf_of (class.Value query) = Worth query
 
@@ -162,7 +162,7 @@ module _ (place : ColumnName → Option Expr) where
   expression_layer (Expression-F.Text t) = plain_numbers (expr.Literal (value.Text t))
   expression_layer (Expression-F.Column column) = column_numbers column
   expression_layer Expression-F.CountRows = slot_numbers (λ before. expr.Slot (length before)) class.Rows
-  expression_layer (Expression-F.Aggregate function column) = slot_numbers (λ before. expr.Slot (length before)) (class.Of function column)
+  expression_layer (Expression-F.Aggregate function argument) = slot_numbers (λ before. expr.Slot (length before)) (class.Of function argument)
   expression_layer (Expression-F.Subquery query) = slot_numbers (λ before. expr.Slot (length before)) (class.Value query.0)
   expression_layer (Expression-F.Negation part) = then_numbers expr_of.Negation (columns_of part.0) (pieces_at part.0) (numbered_expression place part.0) part.1
   expression_layer (Expression-F.Sum parts) = then_numbers expr_of.Sum (flat_map (λ cs. cs) (map columns_of (map (λ e. e.0) parts))) (flat_map (λ (p : Expression × Pieces). p.1) (map (λ x. (x, pieces_at x)) (map (λ e. e.0) parts))) (all (map (λ e. (e, numbered_expression place e)) (map (λ e. e.0) parts))) (all_numbers (numbered_expression place) columns_of pieces_at parts)

@@ -4,17 +4,16 @@ use Rattle.std.specs.Prelude.{◌⊎◌, unwrap_or, option_map, if◌then◌else
 use Rattle.value.specs.declared.values.Root.{Root}
 use Rattle.value.specs.declared.values.Root.TheVariants.{All}
 use Rattle.value.specs.ValueOrder.{root_cmp}
-use Rattle.value.specs.Ordered.{least, lesser}
 use Rattle.value.proofs.OrderedLists.{has, has-itself}
 use Rattle.value.proofs.ValueOrders.{root_cmp_total, root_exact}
 use Rattle.value.specs.declared.truths.Truth.{Truth}
 use Rattle.value.specs.declared.truths.Truth.TheVariants.{False}
 use Rattle.value.specs.Truths.{not_of, is_of, truth_of_bool}
 use Rattle.table.specs.Rows.{Layout, Tables, layout_of, position_of, layouts_of, key_of}
+use Rattle.table.proofs.DistinctLemmas.{least_same}
 use Rattle.assertion.specs.declared.forms.Form.{Form}
 use Rattle.assertion.specs.Meaning.{State, rows_of, bad_roots, verdict_of, truth_of_roots, row_roots}
 use Rattle.assertion.proofs.ListLemmas.{has-contains, contains-has}
-use Rattle.assertion.proofs.RootLists.{has-least_of, least-lowest, least-only}
 use Rattle.syntax.specs.declared.trees.ColumnName.{ColumnName}
 use Rattle.syntax.specs.declared.trees.Condition.{Condition, out-Condition}
 use Rattle.syntax.specs.declared.trees.Condition.TheOpen.{Condition-F}
@@ -43,14 +42,6 @@ same_empty [] [] h = refl
 same_empty [] (y ∷ ys) h = let k : false ≡ true = h y ∙ has-itself root_cmp_total y ys in cc
 same_empty (x ∷ xs) [] h = let k : true ≡ false = sym (has-itself root_cmp_total x xs) ∙ h x in cc
 same_empty (x ∷ xs) (y ∷ ys) h = refl
-
--- and have the same least root
-least_alike : (xs ys : List Root) → ((r : Root) → has root_cmp r xs ≡ has root_cmp r ys) → least root_cmp xs ≡ least root_cmp ys
-least_alike [] [] h = refl
-least_alike (x ∷ xs) [] h = let k : true ≡ false = sym (has-itself root_cmp_total x xs) ∙ h x in cc
-least_alike xs (y ∷ ys) h =
-    let r = lesser root_cmp y (least root_cmp ys) in
-    least-only xs r (h r ∙ has-least_of (y ∷ ys) r refl) (λ q e. least-lowest (y ∷ ys) r refl q (sym (h q) ∙ e))
 
 none_given : (g : Answer → Root) (rows : List Answer) → not_of (truth_of_bool (is_any rows)) ≡ truth_of_roots (map g rows)
 none_given g [] = refl
@@ -183,4 +174,4 @@ HasWrittenTruth-law tables condition form e state = (whole_agrees tables conditi
 
 pub HasWrittenLeast-law : law.HasWrittenLeast
 HasWrittenLeast-law tables condition form e state =
-    least_alike (written_bad_roots tables state condition) (bad_roots (layouts_of tables) form state) (whole_agrees tables condition form (out-Condition condition) refl e state).0
+    least_same root_cmp_total root_exact (written_bad_roots tables state condition) (bad_roots (layouts_of tables) form state) (whole_agrees tables condition form (out-Condition condition) refl e state).0

@@ -7,6 +7,7 @@ use Rattle.value.specs.declared.comparisons.Comparison.TheVariants.{Equal}
 use Rattle.table.specs.Rows.{Layout, Tables, layout_of}
 use Rattle.assertion.specs.declared.queries.Link.{Link}
 use Rattle.syntax.specs.declared.trees.Aggregate.{Aggregate}
+use Rattle.syntax.specs.declared.trees.Argument.{Argument}
 use Rattle.syntax.specs.declared.trees.ColumnName.{ColumnName}
 use Rattle.syntax.specs.declared.trees.Condition.{Condition, out-Condition}
 use Rattle.syntax.specs.declared.trees.Condition.TheOpen.{Condition-F, Expression-F, SelectList-F}
@@ -33,7 +34,7 @@ IfWritten P (Some condition) = P condition
 -- that stands for its value
 pub data Piece : Type 0 where
   Rows : Piece
-  Of : Aggregate → ColumnName → Piece
+  Of : Aggregate → Argument → Piece
   Exists : Query → Piece
   Value : Query → Piece
 
@@ -48,7 +49,7 @@ expression_columns (Expression-F.Number n) = []
 expression_columns (Expression-F.Text t) = []
 expression_columns (Expression-F.Column column) = column ∷ []
 expression_columns Expression-F.CountRows = []
-expression_columns (Expression-F.Aggregate function column) = []
+expression_columns (Expression-F.Aggregate function argument) = []
 expression_columns (Expression-F.Subquery query) = []
 expression_columns (Expression-F.Negation part) = part
 expression_columns (Expression-F.Sum parts) = flat_map (λ part. part) parts
@@ -79,7 +80,7 @@ expression_pieces (Expression-F.Number n) = []
 expression_pieces (Expression-F.Text t) = []
 expression_pieces (Expression-F.Column column) = []
 expression_pieces Expression-F.CountRows = Rows ∷ []
-expression_pieces (Expression-F.Aggregate function column) = Of function column ∷ []
+expression_pieces (Expression-F.Aggregate function argument) = Of function argument ∷ []
 expression_pieces (Expression-F.Subquery query) = Value query.0 ∷ []
 expression_pieces (Expression-F.Negation part) = part.1
 expression_pieces (Expression-F.Sum parts) = flat_map (λ part. part.1) parts
@@ -136,7 +137,7 @@ IsSimpleList P (SelectList-F.One expression) = IsSimple P (out-Expression expres
 -- one set function over a table's rows
 abbrev pub IsSet : Scope → Expression-F Condition Expression SelectList Query → Type 0
 IsSet scope Expression-F.CountRows = Unit {0}
-IsSet scope (Expression-F.Aggregate function column) = IsOwn scope column
+IsSet scope (Expression-F.Aggregate function argument) = IsOwn scope argument.column
 IsSet scope other = ⊥
 
 -- what a query lists that stands for its value: one set function
@@ -165,7 +166,7 @@ pub record IsPlainQuery (tables : Tables) (query : Query) : Type 0 where
 -- what a single condition may have: such a query, which stands for its value
 abbrev pub IsPlainPiece : Tables → Piece → Type 0
 IsPlainPiece tables Rows = ⊥
-IsPlainPiece tables (Of function column) = ⊥
+IsPlainPiece tables (Of function argument) = ⊥
 IsPlainPiece tables (Exists query) = ⊥
 IsPlainPiece tables (Value query) = IsPlainQuery tables query
 
@@ -179,7 +180,7 @@ pub record IsSingle (tables : Tables) (condition : Condition) : Type 0 where
 -- what a HAVING may have: COUNT(*), or a set function of a column of the table
 abbrev pub IsSetFunction : Scope → Piece → Type 0
 IsSetFunction scope Rows = Unit {0}
-IsSetFunction scope (Of function column) = IsOwn scope column
+IsSetFunction scope (Of function argument) = IsOwn scope argument.column
 IsSetFunction scope (Exists query) = ⊥
 IsSetFunction scope (Value query) = ⊥
 

@@ -1,6 +1,6 @@
 -- What search conditions, value expressions and queries mean, over their written trees and plain rows (ISO/IEC
 -- 9075:1992; the subclause of each piece in brackets).
-use Rattle.std.specs.Prelude.{ℕ, pos, ◌+ℤ◌, ◌*ℤ◌, Bool, true, false, not, ◌||◌, if◌then◌else◌, List, [], ◌∷◌}
+use Rattle.std.specs.Prelude.{ℕ, pos, ◌+ℤ◌, ◌*ℤ◌, Bool, true, false, ◌||◌, if◌then◌else◌, List, [], ◌∷◌}
 use Rattle.std.specs.Prelude.{length, map, filter, Option, Some, None, is_some, unwrap_or}
 use Rattle.std.specs.Ordering.{eq_by_cmp}
 use Rattle.value.specs.declared.values.Value.{Value}
@@ -14,10 +14,13 @@ use Rattle.value.specs.declared.truths.Truth.{Truth}
 use Rattle.value.specs.declared.truths.Truth.TheVariants.{True, False}
 use Rattle.value.specs.Truths.{and_of, not_of, is_of, truth_of_bool}
 use Rattle.table.specs.Rows.{RowValues, Layout, Tables, value_in, layout_of, position_of}
-use Rattle.table.specs.Aggregates.{is_there, sum_answer}
+use Rattle.table.specs.Aggregates.{is_there, distinct, sum_answer}
 use Rattle.table.specs.Values.{negative_of, total, comparison_truth, is_null, all_of, any_of}
 use Rattle.syntax.specs.declared.trees.Aggregate.{Aggregate}
 use Rattle.syntax.specs.declared.trees.Aggregate.TheVariants.{Count, Sum, Min, Max}
+use Rattle.syntax.specs.declared.trees.SetQuantifier.{SetQuantifier}
+use Rattle.syntax.specs.declared.trees.SetQuantifier.TheVariants as quantifier
+use Rattle.syntax.specs.declared.trees.Argument.{Argument}
 use Rattle.syntax.specs.declared.trees.ColumnName.{ColumnName}
 use Rattle.syntax.specs.declared.trees.Condition.{Condition, out-Condition}
 use Rattle.syntax.specs.declared.trees.Condition.TheOpen.{Condition-F, Expression-F, SelectList-F, Query-F}
@@ -65,6 +68,11 @@ first_value [] = Null
 first_value (v ∷ vs) = v
 
 -- ---- set functions (6.5): NULLs are left out, and of no value COUNT is 0 and the others are NULL
+
+-- the values that a set function is of, as often as they stand or, with DISTINCT, each once
+abbrev pub quantified : SetQuantifier → List Value → List Value
+quantified quantifier.All values = values
+quantified quantifier.Distinct values = distinct values
 
 -- a set function of the values that are not NULL
 abbrev pub set_function : Aggregate → List Value → Value
@@ -138,8 +146,9 @@ abbrev pub rows_counted : References → Value
 rows_counted around = Int (pos (length (rows_at_hand around)))
 
 -- a set function of a column: of what its rows at hand have there, without NULLs
-abbrev pub set_of_column : Aggregate → ColumnName → References → Value
-set_of_column function column around = set_function function (filter is_there (column_values column around))
+abbrev pub set_of_column : Aggregate → Argument → References → Value
+set_of_column function argument around =
+    set_function function (quantified argument.quantifier (filter is_there (column_values argument.column around)))
 
 -- an expression by what its parts mean
 abbrev pub expression_step : MeantExpression → Evaluation
@@ -147,7 +156,8 @@ expression_step (Expression-F.Number n) = simple (λ around. Int n)
 expression_step (Expression-F.Text t) = simple (λ around. Text t)
 expression_step (Expression-F.Column column) = simple (λ around. first_value (column_values column around))
 expression_step Expression-F.CountRows = record { sets = true; value = rows_counted }
-expression_step (Expression-F.Aggregate function column) = record { sets = true; value = set_of_column function column }
+expression_step (Expression-F.Aggregate function argument) =
+    record { sets = true; value = set_of_column function argument }
 expression_step (Expression-F.Subquery query) = simple (λ around. only_value (query around))
 expression_step (Expression-F.Negation part) = record { sets = part.sets; value = value_of_negation part }
 expression_step (Expression-F.Sum parts) = record { sets = any_sets parts; value = value_of_sum parts }
@@ -193,17 +203,12 @@ abbrev pub passes : Option (References → Truth) → References → Bool
 passes None around = true
 passes (Some condition) around = is_of (condition around) True
 
--- the values of a list, each once; NULL is a value like another there
-abbrev pub distinct : List Value → List Value
-distinct [] = []
-distinct (v ∷ vs) = v ∷ filter (λ w. not (eq_by_cmp value_cmp v w)) (distinct vs)
-
 -- the rows that have a value
 abbrev pub rows_with : (RowValues → Value) → List RowValues → Value → List RowValues
 rows_with value rows v = filter (λ row. eq_by_cmp value_cmp v (value row)) rows
 
--- GROUP BY makes a group of the rows of each value of its column (7.7); with HAVING or a set function alone all rows
--- are one group, and else each row is on its own (7.9)
+-- GROUP BY makes a group of the rows of each value of its column, NULL like another (7.7); with HAVING or a set
+-- function alone all rows are one group, and else each row is on its own (7.9)
 abbrev pub groups_of_rows : Option (RowValues → Value) → Bool → List RowValues → List (List RowValues)
 groups_of_rows (Some value) sets rows = map (rows_with value rows) (distinct (map value rows))
 groups_of_rows None true rows = rows ∷ []

@@ -3,8 +3,9 @@
 //! A single condition is over whole tables. Where its set functions are COUNT and SUM alone, what they count and add
 //! is kept in a table of one row, to which each statement adds what it has changed, so that a check reads one row.
 //! Two transactions that both change it meet there, and the second is refused with 40001. They would be refused by a
-//! check of aggregates too: each would have read what the other one changes. MIN and MAX of what is left after a
-//! DELETE are known from no total, so a condition over one of them is checked by its aggregates.
+//! check of aggregates too: each would have read what the other one changes. MIN and MAX, and COUNT and SUM of each
+//! value once, are of what is left after a DELETE known from no total, so a condition over one of them is checked by
+//! its aggregates.
 
 use crate::conditions::Slots;
 use crate::forms::{add_column_of, add_filter, add_source};
@@ -21,10 +22,10 @@ pub const WHY_KEPT: &str = "single, checked by totals in a table of one row.
 
 /// Why no totals are kept of a rule.
 pub const WHY_NOT_KEPT: &str = "single, checked by aggregates over the tables whole.
--- The least or the greatest of what is left after a DELETE is known from no total.
+-- MIN, MAX and DISTINCT of what is left after a DELETE are known from no total.
 ";
 
-/// Whether totals are kept of these subqueries: each is of COUNT or of SUM.
+/// Whether totals are kept of these subqueries: each is of COUNT or of SUM, and of each value as often as it stands.
 pub fn are_kept(queries: &[Query<Whole>]) -> bool {
     queries.iter().all(|query| is_counted(query.aggregate))
 }
@@ -32,7 +33,10 @@ pub fn are_kept(queries: &[Query<Whole>]) -> bool {
 fn is_counted(aggregate: Aggregate) -> bool {
     match aggregate {
         Aggregate::CountRows | Aggregate::Count(_) | Aggregate::Sum(_) => true,
-        Aggregate::Min(_) | Aggregate::Max(_) => false,
+        Aggregate::CountDistinct(_)
+        | Aggregate::SumDistinct(_)
+        | Aggregate::Min(_)
+        | Aggregate::Max(_) => false,
     }
 }
 
@@ -128,16 +132,10 @@ fn add_kept(sql: &mut Printout, view: &View, query: &Query<Whole>, row: &str) {
 /// Adds the test whether a set function counts a row: its WHERE keeps it, and its column is not NULL.
 fn add_counted(sql: &mut Printout, view: &View, query: &Query<Whole>, row: &str) {
     add_filter(sql, view, query.table, row, &query.filter);
-    match query.aggregate {
-        Aggregate::CountRows => {}
-        Aggregate::Count(column)
-        | Aggregate::Sum(column)
-        | Aggregate::Min(column)
-        | Aggregate::Max(column) => {
-            sql.add_all(&[" AND ", row, "."]);
-            add_column_of(sql, view, query.table, column);
-            sql.add(" IS NOT NULL");
-        }
+    if let Some(column) = query.aggregate.column() {
+        sql.add_all(&[" AND ", row, "."]);
+        add_column_of(sql, view, query.table, column);
+        sql.add(" IS NOT NULL");
     }
 }
 

@@ -72,7 +72,9 @@ pub fn add_set_function(sql: &mut Printout, aggregate: Aggregate, row: &str, col
     let (word, place) = match aggregate {
         Aggregate::CountRows => return sql.add("count(*)"),
         Aggregate::Count(place) => ("count(", place),
+        Aggregate::CountDistinct(place) => ("count(DISTINCT ", place),
         Aggregate::Sum(place) => ("sum(", place),
+        Aggregate::SumDistinct(place) => ("sum(DISTINCT ", place),
         Aggregate::Min(place) => ("min(", place),
         Aggregate::Max(place) => ("max(", place),
     };

@@ -6,6 +6,7 @@ use Rattle.value.specs.declared.values.Value.TheVariants as v
 use Rattle.value.specs.declared.truths.Truth.{Truth}
 use Rattle.value.specs.declared.comparisons.Comparison.{Comparison}
 use Rattle.syntax.specs.declared.trees.Aggregate.{Aggregate}
+use Rattle.syntax.specs.declared.trees.Argument.{Argument as SetFunctionArgument}
 use Rattle.syntax.specs.declared.trees.ColumnName.{ColumnName}
 use Rattle.syntax.specs.declared.trees.Condition.{Condition, roll-Condition, out-Condition, out-roll-Condition, roll-out-Condition}
 use Rattle.syntax.specs.declared.trees.Condition.TheVariants as b
@@ -41,8 +42,8 @@ of_text t now = ap (λ x. filled_expression x now) (sym (e.rolls-Text t)) ∙ ex
 pub of_column : (column : ColumnName) (now : Constants) → filled_expression (e.Column column) now ≡ Ok (e.Column column, now)
 of_column column now = ap (λ x. filled_expression x now) (sym (e.rolls-Column column)) ∙ expression_rolled (Expression-F.Column column) now
 
-pub of_aggregate : (function : Aggregate) (column : ColumnName) (now : Constants) → filled_expression (e.Aggregate function column) now ≡ Ok (e.Aggregate function column, now)
-of_aggregate function column now = ap (λ x. filled_expression x now) (sym (e.rolls-Aggregate function column)) ∙ expression_rolled (Expression-F.Aggregate function column) now
+pub of_aggregate : (function : Aggregate) (argument : SetFunctionArgument) (now : Constants) → filled_expression (e.Aggregate function argument) now ≡ Ok (e.Aggregate function argument, now)
+of_aggregate function argument now = ap (λ x. filled_expression x now) (sym (e.rolls-Aggregate function argument)) ∙ expression_rolled (Expression-F.Aggregate function argument) now
 
 pub of_subquery : (query : Query) (now : Constants) → filled_expression (e.Subquery query) now ≡ then_made e.Subquery (filled_query query now)
 of_subquery query now = ap (λ x. filled_expression x now) (sym (e.rolls-Subquery query)) ∙ expression_rolled (Expression-F.Subquery query) now
@@ -281,9 +282,9 @@ product_merged_by x y now rest (Expression-F.Text t) r h =
 product_merged_by x y now rest (Expression-F.Column column) r h =
     let is : roll-Expression (Expression-F.Column column) ≡ y = e.rolls-Column column ∙ first_same (e.Column column) y now rest (sym (expression_rolled (Expression-F.Column column) now) ∙ ap (λ z. filled_expression z now) r ∙ h) in
     alone_part g.product_parts filled_expression x y now rest h (product_by x (Expression-F.Column column) r) (product_by y (Expression-F.Column column) is)
-product_merged_by x y now rest (Expression-F.Aggregate function column) r h =
-    let is : roll-Expression (Expression-F.Aggregate function column) ≡ y = e.rolls-Aggregate function column ∙ first_same (e.Aggregate function column) y now rest (sym (expression_rolled (Expression-F.Aggregate function column) now) ∙ ap (λ z. filled_expression z now) r ∙ h) in
-    alone_part g.product_parts filled_expression x y now rest h (product_by x (Expression-F.Aggregate function column) r) (product_by y (Expression-F.Aggregate function column) is)
+product_merged_by x y now rest (Expression-F.Aggregate function argument) r h =
+    let is : roll-Expression (Expression-F.Aggregate function argument) ≡ y = e.rolls-Aggregate function argument ∙ first_same (e.Aggregate function argument) y now rest (sym (expression_rolled (Expression-F.Aggregate function argument) now) ∙ ap (λ z. filled_expression z now) r ∙ h) in
+    alone_part g.product_parts filled_expression x y now rest h (product_by x (Expression-F.Aggregate function argument) r) (product_by y (Expression-F.Aggregate function argument) is)
 product_merged_by x y now rest (Expression-F.Subquery query) r h =
     let m = made_of e.Subquery (filled_query query now) y rest (sym (expression_rolled (Expression-F.Subquery query) now) ∙ ap (λ z. filled_expression z now) r ∙ h) in
     alone_part g.product_parts filled_expression x y now rest h (product_by x (Expression-F.Subquery query) r) (product_by y (Expression-F.Subquery m.part) (e.rolls-Subquery m.part ∙ sym m.is))
@@ -312,9 +313,9 @@ sum_merged_by x y now rest (Expression-F.Text t) r h =
 sum_merged_by x y now rest (Expression-F.Column column) r h =
     let is : roll-Expression (Expression-F.Column column) ≡ y = e.rolls-Column column ∙ first_same (e.Column column) y now rest (sym (expression_rolled (Expression-F.Column column) now) ∙ ap (λ z. filled_expression z now) r ∙ h) in
     alone_part g.sum_parts filled_expression x y now rest h (sum_by x (Expression-F.Column column) r) (sum_by y (Expression-F.Column column) is)
-sum_merged_by x y now rest (Expression-F.Aggregate function column) r h =
-    let is : roll-Expression (Expression-F.Aggregate function column) ≡ y = e.rolls-Aggregate function column ∙ first_same (e.Aggregate function column) y now rest (sym (expression_rolled (Expression-F.Aggregate function column) now) ∙ ap (λ z. filled_expression z now) r ∙ h) in
-    alone_part g.sum_parts filled_expression x y now rest h (sum_by x (Expression-F.Aggregate function column) r) (sum_by y (Expression-F.Aggregate function column) is)
+sum_merged_by x y now rest (Expression-F.Aggregate function argument) r h =
+    let is : roll-Expression (Expression-F.Aggregate function argument) ≡ y = e.rolls-Aggregate function argument ∙ first_same (e.Aggregate function argument) y now rest (sym (expression_rolled (Expression-F.Aggregate function argument) now) ∙ ap (λ z. filled_expression z now) r ∙ h) in
+    alone_part g.sum_parts filled_expression x y now rest h (sum_by x (Expression-F.Aggregate function argument) r) (sum_by y (Expression-F.Aggregate function argument) is)
 sum_merged_by x y now rest (Expression-F.Subquery query) r h =
     let m = made_of e.Subquery (filled_query query now) y rest (sym (expression_rolled (Expression-F.Subquery query) now) ∙ ap (λ z. filled_expression z now) r ∙ h) in
     alone_part g.sum_parts filled_expression x y now rest h (sum_by x (Expression-F.Subquery query) r) (sum_by y (Expression-F.Subquery m.part) (e.rolls-Subquery m.part ∙ sym m.is))

@@ -5,6 +5,7 @@ use Rattle.std.specs.List.{flat_map}
 use Rattle.value.specs.declared.truths.Truth.{Truth}
 use Rattle.value.specs.declared.comparisons.Comparison.{Comparison}
 use Rattle.syntax.specs.declared.trees.Aggregate.{Aggregate}
+use Rattle.syntax.specs.declared.trees.Argument.{Argument}
 use Rattle.syntax.specs.declared.trees.ColumnName.{ColumnName}
 use Rattle.syntax.specs.declared.trees.Condition.{Condition, roll-Condition, out-Condition}
 use Rattle.syntax.specs.declared.trees.Condition.TheVariants as b
@@ -53,8 +54,8 @@ of_column column = ap expression_numerals (sym (e.rolls-Column column)) ∙ expr
 pub of_countrows : expression_numerals e.CountRows ≡ []
 of_countrows = ap expression_numerals (sym e.rolls-CountRows) ∙ expression_rolled Expression-F.CountRows
 
-pub of_aggregate : (function : Aggregate) (column : ColumnName) → expression_numerals (e.Aggregate function column) ≡ []
-of_aggregate function column = ap expression_numerals (sym (e.rolls-Aggregate function column)) ∙ expression_rolled (Expression-F.Aggregate function column)
+pub of_aggregate : (function : Aggregate) (argument : Argument) → expression_numerals (e.Aggregate function argument) ≡ []
+of_aggregate function argument = ap expression_numerals (sym (e.rolls-Aggregate function argument)) ∙ expression_rolled (Expression-F.Aggregate function argument)
 
 pub of_subquery : (query : Query) → expression_numerals (e.Subquery query) ≡ query_numerals query
 of_subquery query = ap expression_numerals (sym (e.rolls-Subquery query)) ∙ expression_rolled (Expression-F.Subquery query)

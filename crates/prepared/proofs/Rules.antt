@@ -6,6 +6,8 @@ use Rattle.value.specs.declared.truths.Truth.TheVariants as t
 use Rattle.value.specs.declared.comparisons.Comparison.TheVariants as c
 use Rattle.syntax.specs.declared.trees.Aggregate.{Aggregate}
 use Rattle.syntax.specs.declared.trees.Aggregate.TheVariants as a
+use Rattle.syntax.specs.declared.trees.SetQuantifier.{SetQuantifier}
+use Rattle.syntax.specs.declared.trees.SetQuantifier.TheVariants as quantifier
 use Rattle.syntax.specs.declared.trees.Condition.{Condition}
 use Rattle.syntax.specs.declared.trees.Condition.TheVariants as b
 use Rattle.syntax.specs.declared.trees.Expression.{Expression}
@@ -36,6 +38,15 @@ silent_column_after x = silent_or _ _ (silent_pure _) (silent_seq k.Dot _ refl (
 pub silent_column : Silent g.column
 unfolding g.column
 silent_column = silent_then (lang.token k.Name) g.column_after (λ before. yields_token k.Name before refl) silent_column_after
+
+silent_quantified : (q : SetQuantifier) → Silent (lang.◌<$>◌ (g.argument_of q) g.column)
+silent_quantified q = silent_map (g.argument_of q) g.column silent_column
+
+silent_argument : Silent g.argument
+unfolding g.argument
+silent_argument =
+    silent_or _ _ (silent_or _ _ (silent_quantified quantifier.All) (silent_seq k.All _ refl (silent_quantified quantifier.All)))
+    (silent_seq k.Distinct _ refl (silent_quantified quantifier.Distinct))
 
 silent_sign : Silent g.comparison_sign
 silent_sign =
@@ -74,7 +85,7 @@ adds_text : Adds g.text expression_numerals
 adds_text = adds_none (λ x. e.Text (g.text_in_quotes x)) (lang.token k.Text) expression_numerals (λ x. of_text (g.text_in_quotes x)) (λ before. yields_token k.Text before refl)
 
 adds_of : (f : Aggregate) → Adds (g.of f) expression_numerals
-adds_of f = adds_none (e.Aggregate f) (lang.parens g.column) expression_numerals (of_aggregate f) (silent_parens g.column silent_column)
+adds_of f = adds_none (e.Aggregate f) (lang.parens g.argument) expression_numerals (of_aggregate f) (silent_parens g.argument silent_argument)
 
 adds_aggregate : Adds g.aggregate expression_numerals
 unfolding g.aggregate

@@ -9,6 +9,8 @@ use Rattle.value.specs.declared.values.Value.{Value}
 use Rattle.value.specs.declared.values.Value.TheVariants as v
 use Rattle.syntax.specs.declared.trees.Aggregate.{Aggregate}
 use Rattle.syntax.specs.declared.trees.Aggregate.TheVariants as a
+use Rattle.syntax.specs.declared.trees.SetQuantifier.{SetQuantifier}
+use Rattle.syntax.specs.declared.trees.SetQuantifier.TheVariants as quantifier
 use Rattle.syntax.specs.declared.trees.Condition.{Condition}
 use Rattle.syntax.specs.declared.trees.Condition.TheVariants as b
 use Rattle.syntax.specs.declared.trees.Expression.{Expression}
@@ -67,6 +69,17 @@ module _ (write : Argument → Lexemes) (ok : Value → Type 0) where
   unfolding g.column
   quiet_column p = quiet_then write ok (lang.token k.Name) g.column_after p Ends Ends (quiet_token write ok k.Name p refl) quiet_column_after
 
+  quiet_quantified : (q : SetQuantifier) (p : Prior) → Quiet write ok (lang.◌<$>◌ (g.argument_of q) g.column) p Ends
+  quiet_quantified q p = quiet_map write ok (g.argument_of q) g.column p Ends (quiet_column p)
+
+  quiet_argument : (p : Prior) → Quiet write ok g.argument p Ends
+  unfolding g.argument
+  quiet_argument p =
+      quiet_or write ok _ _ p Ends (quiet_or write ok _ _ p Ends
+      (quiet_quantified quantifier.All p)
+      (quiet_seq write ok k.All _ p Other Ends refl refl (quiet_quantified quantifier.All Other)))
+      (quiet_seq write ok k.Distinct _ p Other Ends refl refl (quiet_quantified quantifier.Distinct Other))
+
   abbrev IsOther : Prior → Type 0
   IsOther q = q ≡ Other
 
@@ -105,7 +118,7 @@ module _ (write : Argument → Lexemes) (ok : Value → Type 0) where
   keeps_text p = keeps_quiet write ok (λ x. e.Text (g.text_in_quotes x)) (lang.token k.Text) filled_expression p Ends (λ x now. of_text (g.text_in_quotes x) now) (quiet_token write ok k.Text p refl)
 
   keeps_of : (f : Aggregate) (p : Prior) (now : Constants) → Keeps write ok (g.of f) (g.of f) now (λ x. filled_expression x now) p Ends
-  keeps_of f p = keeps_quiet write ok (e.Aggregate f) (lang.parens g.column) filled_expression p Ends (of_aggregate f) (quiet_parens write ok g.column p Ends (quiet_column Other))
+  keeps_of f p = keeps_quiet write ok (e.Aggregate f) (lang.parens g.argument) filled_expression p Ends (of_aggregate f) (quiet_parens write ok g.argument p Ends (quiet_argument Other))
 
   keeps_aggregate : (p : Prior) (now : Constants) → Keeps write ok g.aggregate g.aggregate now (λ x. filled_expression x now) p Ends
   unfolding g.aggregate

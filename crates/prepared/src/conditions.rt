@@ -8,7 +8,7 @@ ghost use Rattle.syntax.specs.declared.trees.Query.{out-Query};
 ghost use Rattle.prepared.specs.Conditions.{filled_condition, filled_expression, filled_query, filled_select_list};
 
 use crate::constants::Constants;
-use crate::copies::{copy_column, copy_group, copy_name, drop_and_fail, put_behind};
+use crate::copies::{copy_argument, copy_column, copy_group, copy_name, drop_and_fail, put_behind};
 use crate::faults::FillFault;
 use sqlite_items::{Boxed, Items};
 use std::alloc::{AllocError, Global};
@@ -119,8 +119,8 @@ pub fn fill_expression(
         Expression::Text(text) => Ok(Expression::Text(text.copy()?)),
         Expression::Column(column) => Ok(Expression::Column(copy_column(column)?)),
         Expression::CountRows => Ok(Expression::CountRows),
-        Expression::Aggregate(function, column) => {
-            Ok(Expression::Aggregate(*function, copy_column(column)?))
+        Expression::Aggregate(function, argument) => {
+            Ok(Expression::Aggregate(*function, copy_argument(argument)?))
         }
         Expression::Subquery(query) => {
             let query = fill_query(alloc, query.get(), constants)?;

@@ -5,7 +5,7 @@ ghost use Rattle.std.specs.Prelude.{◌≡◌, [], ◌∷◌, ◌++◌, IfOk};
 use crate::faults::FillFault;
 use sqlite_items::Items;
 use std::alloc::{AllocError, Global};
-use syntax::{ColumnName, Which};
+use syntax::{Argument, ColumnName, Which};
 use value::Text;
 
 /// The fault, once what was made is let go. Here its type is a parameter: that a tree may be dropped is proved dearly.
@@ -40,6 +40,17 @@ pub fn copy_column(column: &ColumnName) -> Result<ColumnName, AllocError>
     let qualifier = copy_name(&column.qualifier)?;
     let name = column.name.copy()?;
     Ok(ColumnName { qualifier, name })
+}
+
+/// A set function's argument equal to this one.
+pub fn copy_argument(argument: &Argument) -> Result<Argument, AllocError>
+    ensures { IfOk result (λ copy. copy ≡ argument.now) }
+{
+    let column = copy_column(&argument.column)?;
+    Ok(Argument {
+        quantifier: argument.quantifier,
+        column,
+    })
 }
 
 /// A column of GROUP BY equal to this one, if there is one.

@@ -93,7 +93,9 @@ pub fn counted_by(row: &Row, aggregate: Aggregate) -> Result<Value, AllocError>
     match aggregate {
         Aggregate::CountRows => Ok(Value::Null),
         Aggregate::Count(column)
+        | Aggregate::CountDistinct(column)
         | Aggregate::Sum(column)
+        | Aggregate::SumDistinct(column)
         | Aggregate::Min(column)
         | Aggregate::Max(column) => value_at(row, column),
     }

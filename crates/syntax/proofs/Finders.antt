@@ -6,7 +6,10 @@ use Rattle.value.specs.declared.comparisons.Comparison.{Comparison}
 use Rattle.value.specs.declared.truths.Truth.{Truth}
 use Rattle.syntax.specs.declared.trees.Aggregate.{Aggregate}
 use Rattle.syntax.specs.declared.trees.Aggregate.TheVariants as a
+use Rattle.syntax.specs.declared.trees.Argument.{Argument}
 use Rattle.syntax.specs.declared.trees.ColumnName.{ColumnName}
+use Rattle.syntax.specs.declared.trees.SetQuantifier.{SetQuantifier}
+use Rattle.syntax.specs.declared.trees.SetQuantifier.TheVariants as quantifier
 use Rattle.syntax.specs.declared.trees.SelectList.{SelectList}
 use Rattle.syntax.specs.declared.trees.SelectList.TheVariants as which
 use Rattle.syntax.specs.declared.trees.Query.{Query}
@@ -123,6 +126,30 @@ group_by_follows : Follows 2 1 g.group_by
 unfolding g.group_by
 group_by_follows = optional_follows 2 1 k.Group (omega arith) (omega arith) (opens_token (λ next. next ≡ k.Group) k.Group refl)
 
+argument_opens : (P : Kind → Type 0) → P k.Name → P k.All → P k.Distinct → Opens g.argument P
+unfolding g.argument
+argument_opens P name all distinct = opens_either P (opens_either P (opens_then P (column_opens P name)) (opens_token P k.All all)) (opens_token P k.Distinct distinct)
+
+-- a set function's argument behind its set quantifier
+abbrev quantified : SetQuantifier → Language Argument
+quantified q = lang.◌<$>◌ (g.argument_of q) g.column
+
+quantified_f : (q : SetQuantifier) → Finds rank 9 (quantified q) (rd.◌<$>◌ (g.argument_of q) r.column)
+quantified_f q = map_f 9 (g.argument_of q) column_f
+
+argument_f : Finds rank 9 g.argument r.argument
+unfolding g.argument r.argument
+argument_f = record { finds = go }
+  where
+    go : (w rest : Lexemes) (x : Argument)
+        → lang.◌∪◌ (lang.◌∪◌ (quantified quantifier.All) (lang.◌>>◌ (lang.token k.All) (quantified quantifier.All))) (lang.◌>>◌ (lang.token k.Distinct) (quantified quantifier.Distinct)) w x
+        → rank (kind_at rest) ≤ 9 → Accepts (by_kind r.argument_by (w ++ rest)) x rest
+    go w rest x (inl (inl h)) small =
+        let P : Kind → Type 0 = Goes r.argument_by (rd.◌<$>◌ (g.argument_of quantifier.All) r.column) in
+        route r.argument_by 9 (quantified_f quantifier.All) (opens_then P (column_opens P refl)) w rest x h small
+    go w rest x (inl (inr h)) small = pick r.argument_by k.All 9 refl (seq_f 9 k.All (quantified_f quantifier.All)) w rest x h small
+    go w rest x (inr h) small = pick r.argument_by k.Distinct 9 refl (seq_f 9 k.Distinct (quantified_f quantifier.Distinct)) w rest x h small
+
 -- what stands in the parentheses of COUNT
 counted_in_f : Finds rank 0 counted_in r.counted_inside
 unfolding r.counted_inside
@@ -130,7 +157,9 @@ counted_in_f = record { finds = go }
   where
     go : (w rest : Lexemes) (x : Expression) → counted_in w x → rank (kind_at rest) ≤ 0 → Accepts (by_kind r.counted_by (w ++ rest)) x rest
     go w rest x (inl h) small = pick r.counted_by k.Star 0 refl (seq_f 0 k.Star (finds_pure rank 0 e.CountRows)) w rest x h small
-    go w rest x (inr h) small = route r.counted_by 0 (map_f 0 (e.Aggregate a.Count) (lower 0 9 (omega arith) column_f)) (opens_then (Goes r.counted_by (rd.◌<$>◌ (e.Aggregate a.Count) r.column)) (column_opens (Goes r.counted_by (rd.◌<$>◌ (e.Aggregate a.Count) r.column)) refl)) w rest x h small
+    go w rest x (inr h) small =
+        let P : Kind → Type 0 = Goes r.counted_by (rd.◌<$>◌ (e.Aggregate a.Count) r.argument) in
+        route r.counted_by 0 (map_f 0 (e.Aggregate a.Count) (lower 0 9 (omega arith) argument_f)) (opens_then P (argument_opens P refl refl refl)) w rest x h small
 
 -- ---- what may have parentheses in it
 
@@ -253,7 +282,7 @@ module _ (n : ℕ) (inner : Language PartInParentheses) (reader : Want → Reade
 
   of_f : (m : ℕ) (y : Aggregate) → Finds rank m (g.of y) (r.aggregate_of n reader y)
   unfolding r.aggregate_of
-  of_f m y = map_f m (e.Aggregate y) (finds_parens rank m n g.column r.column (omega arith) (λ i is. lower 0 9 (omega arith) column_f))
+  of_f m y = map_f m (e.Aggregate y) (finds_parens rank m n g.argument r.argument (omega arith) (λ i is. lower 0 9 (omega arith) argument_f))
 
   counted_f : (m : ℕ) → Finds rank m (lang.parens counted_in) (r.counted n reader)
   unfolding r.counted
@@ -263,7 +292,7 @@ module _ (n : ℕ) (inner : Language PartInParentheses) (reader : Want → Reade
   star_to w x h = parens_into (lang.◌>>◌ (lang.token k.Star) (lang.pure e.CountRows)) counted_in w x x (λ v m. inl m) h
 
   count_to : (w : Lexemes) (x : Expression) → g.of a.Count w x → lang.parens counted_in w x
-  count_to w x h = parens_into (lang.◌<$>◌ (e.Aggregate a.Count) g.column) counted_in w x x (λ v m. inr m) (map_parens (e.Aggregate a.Count) g.column w x h)
+  count_to w x h = parens_into (lang.◌<$>◌ (e.Aggregate a.Count) g.argument) counted_in w x x (λ v m. inr m) (map_parens (e.Aggregate a.Count) g.argument w x h)
 
   aggregate_f : (w rest : Lexemes) (x : Expression) → g.aggregate w x → rank (kind_at rest) ≤ 9 → Accepts (by_kind (r.other_by n reader) (w ++ rest)) x rest
   unfolding g.aggregate

@@ -4,6 +4,7 @@ use Rattle.token.specs.declared.kinds.Kind.{Kind}
 use Rattle.token.specs.declared.kinds.Kind.TheVariants as k
 use Rattle.syntax.specs.declared.trees.Aggregate.{Aggregate}
 use Rattle.syntax.specs.declared.trees.Aggregate.TheVariants as a
+use Rattle.syntax.specs.declared.trees.SetQuantifier.TheVariants as quantifier
 use Rattle.syntax.specs.declared.trees.SelectList.{SelectList}
 use Rattle.syntax.specs.declared.trees.SelectList.TheVariants as which
 use Rattle.syntax.specs.declared.trees.Query.{Query}
@@ -99,16 +100,30 @@ pub group_by_s : (n : ℕ) → Sound n n g.group_by r.group_by
 unfolding g.group_by r.group_by
 group_by_s n = optional_s k.Group (seq_s k.Group refl (seq_s k.By refl (column_s n)))
 
+unquantified_s : (n : ℕ) → Sound n n g.argument (r.argument_by k.End)
+unfolding g.argument
+unquantified_s n = weak (λ w a h. inl (inl h)) (map_s (g.argument_of quantifier.All) (column_s n))
+
+argument_by_s : (n : ℕ) (kind : Kind) → Sound n n g.argument (r.argument_by kind)
+unfolding g.argument
+argument_by_s n k.All = weak (λ w a h. inl (inr h)) (seq_s k.All refl (map_s (g.argument_of quantifier.All) (column_s n)))
+argument_by_s n k.Distinct = weak (λ w a h. inr h) (seq_s k.Distinct refl (map_s (g.argument_of quantifier.Distinct) (column_s n)))
+argument_by_s n _ = unquantified_s n
+
+pub argument_s : (n : ℕ) → Sound n n g.argument r.argument
+unfolding r.argument
+argument_s n = sound_by_kind n n g.argument r.argument_by (argument_by_s n)
+
 -- what stands in the parentheses of COUNT
 abbrev pub counted_in : Language Expression
-counted_in = lang.◌∪◌ (Then (lang.token k.Star) (λ _. lang.pure e.CountRows)) (lang.◌<$>◌ (e.Aggregate a.Count) g.column)
+counted_in = lang.◌∪◌ (Then (lang.token k.Star) (λ _. lang.pure e.CountRows)) (lang.◌<$>◌ (e.Aggregate a.Count) g.argument)
 
-counted_column : (n : ℕ) → Sound n n counted_in (r.counted_by k.End)
-counted_column n = weak (λ w a h. inr h) (map_s (e.Aggregate a.Count) (column_s n))
+counted_argument : (n : ℕ) → Sound n n counted_in (r.counted_by k.End)
+counted_argument n = weak (λ w a h. inr h) (map_s (e.Aggregate a.Count) (argument_s n))
 
 counted_by_s : (n : ℕ) (kind : Kind) → Sound n n counted_in (r.counted_by kind)
 counted_by_s n k.Star = weak (λ w a h. inl h) (seq_s k.Star refl (sound_pure n e.CountRows))
-counted_by_s n _ = counted_column n
+counted_by_s n _ = counted_argument n
 
 counted_in_s : (n : ℕ) → Sound n n counted_in r.counted_inside
 unfolding r.counted_inside
@@ -118,7 +133,7 @@ count_into : (w : Lexemes) (x : Expression) → Then (lang.token k.Count) (λ _.
 unfolding g.aggregate
 count_into w x h =
     token_either k.Count (lang.parens (Then (lang.token k.Star) (λ _. lang.pure e.CountRows))) (g.of a.Count) g.aggregate (λ w x h. inl (inl (inl (inl h)))) (λ w x h. inl (inl (inl (inr h)))) w x
-    (behind (λ v m. elim (parens_either (Then (lang.token k.Star) (λ _. lang.pure e.CountRows)) (lang.◌<$>◌ (e.Aggregate a.Count) g.column) v x m) [ inl one ↦ inl one | inr two ↦ inr (parens_map (e.Aggregate a.Count) g.column v x two) ]) h)
+    (behind (λ v m. elim (parens_either (Then (lang.token k.Star) (λ _. lang.pure e.CountRows)) (lang.◌<$>◌ (e.Aggregate a.Count) g.argument) v x m) [ inl one ↦ inl one | inr two ↦ inr (parens_map (e.Aggregate a.Count) g.argument v x two) ]) h)
 
 -- ---- what may have parentheses in it, of which n may still be opened
 
@@ -209,7 +224,7 @@ module _ (n : ℕ) (inner : Language PartInParentheses) (reader : Want → Reade
 
   of_s : (f : Aggregate) → Sound n n (g.of f) (r.aggregate_of n reader f)
   unfolding r.aggregate_of
-  of_s f = map_s (e.Aggregate f) (sound_parens n g.column r.column (column_s 0).begins (λ m is. column_s m))
+  of_s f = map_s (e.Aggregate f) (sound_parens n g.argument r.argument (argument_s 0).begins (λ m is. argument_s m))
 
   counted_s : Sound n n (lang.parens counted_in) (r.counted n reader)
   unfolding r.counted

@@ -12,7 +12,10 @@ use Rattle.value.specs.declared.truths.Truth.{Truth}
 use Rattle.value.specs.declared.truths.Truth.TheVariants as t
 use Rattle.syntax.specs.declared.trees.Aggregate.{Aggregate}
 use Rattle.syntax.specs.declared.trees.Aggregate.TheVariants as a
+use Rattle.syntax.specs.declared.trees.Argument.{Argument}
 use Rattle.syntax.specs.declared.trees.ColumnName.{ColumnName}
+use Rattle.syntax.specs.declared.trees.SetQuantifier.{SetQuantifier}
+use Rattle.syntax.specs.declared.trees.SetQuantifier.TheVariants as quantifier
 use Rattle.syntax.specs.declared.trees.SelectList.{SelectList}
 use Rattle.syntax.specs.declared.trees.SelectList.TheVariants as which
 use Rattle.syntax.specs.declared.trees.Query.{Query, roll-Query}
@@ -141,11 +144,23 @@ column = token k.Name >>= column_after
 abbrev pub name : Language (List ℕ)
 name = name_of <$> token k.Name
 
--- "(" colref ")"
-abbrev pub of : Aggregate → Language Expression
-of f = e.Aggregate f <$> parens column
+-- a set function's argument, of this set quantifier and this column
+abbrev pub argument_of : SetQuantifier → ColumnName → Argument
+argument_of quantifier column = record { quantifier = quantifier; column = column }
 
--- agg: COUNT "(" "*" ")" | ( COUNT | SUM | MIN | MAX ) "(" colref ")"
+-- [ ALL | DISTINCT ] colref, where a set quantifier that is not written is ALL (6.5)
+unfoldable pub argument : Language Argument
+argument =
+    (argument_of quantifier.All <$> column)
+    ∪ (token k.All >> (argument_of quantifier.All <$> column))
+    ∪ (token k.Distinct >> (argument_of quantifier.Distinct <$> column))
+
+-- "(" [ ALL | DISTINCT ] colref ")"
+abbrev pub of : Aggregate → Language Expression
+of f = e.Aggregate f <$> parens argument
+
+-- agg: COUNT "(" "*" ")" | ( COUNT | SUM | MIN | MAX ) "(" [ ALL | DISTINCT ] colref ")", SQL-92's set function
+-- specification (6.5)
 unfoldable pub aggregate : Language Expression
 aggregate =
     (token k.Count >> parens (token k.Star >> pure e.CountRows))

@@ -8,7 +8,9 @@ use Rattle.value.specs.declared.truths.Truth.{Truth}
 use Rattle.value.specs.declared.truths.Truth.TheVariants as t
 use Rattle.syntax.specs.declared.trees.Aggregate.{Aggregate}
 use Rattle.syntax.specs.declared.trees.Aggregate.TheVariants as a
+use Rattle.syntax.specs.declared.trees.Argument.{Argument}
 use Rattle.syntax.specs.declared.trees.ColumnName.{ColumnName}
+use Rattle.syntax.specs.declared.trees.SetQuantifier.TheVariants as quantifier
 use Rattle.syntax.specs.declared.trees.SelectList.{SelectList}
 use Rattle.syntax.specs.declared.trees.SelectList.TheVariants as which
 use Rattle.syntax.specs.declared.trees.Query.{Query}
@@ -22,7 +24,7 @@ use Rattle.syntax.specs.declared.wants.Want.{Want}
 use Rattle.syntax.specs.declared.wants.Want.TheVariants as want
 use Rattle.syntax.specs.Language.{Lexeme}
 use Rattle.syntax.specs.Reading.{Reader, ◌>>=◌, ◌>>◌, ◌<$>◌, pure, refuse, by_kind, expect, optional, parens, list, all}
-use Rattle.syntax.specs.Grammar.{product_of, sum_of, and_of, or_of, text_in_quotes, name_of, number_of, query_of}
+use Rattle.syntax.specs.Grammar.{product_of, sum_of, and_of, or_of, text_in_quotes, name_of, number_of, argument_of, query_of}
 
 -- a comparison's sign, by the kind of the next token
 abbrev pub sign_by : Kind → Reader Comparison
@@ -74,12 +76,22 @@ column = expect k.Name >>= column_after
 unfoldable pub name : Reader (List ℕ)
 name = name_of <$> expect k.Name
 
+-- a set function's argument, by the kind of the next token: its set quantifier or none
+abbrev pub argument_by : Kind → Reader Argument
+argument_by k.All = expect k.All >> (argument_of quantifier.All <$> column)
+argument_by k.Distinct = expect k.Distinct >> (argument_of quantifier.Distinct <$> column)
+argument_by _ = argument_of quantifier.All <$> column
+
+-- reads [ ALL | DISTINCT ] colref, the argument of a set function (6.5)
+unfoldable pub argument : Reader Argument
+argument = by_kind argument_by
+
 -- what COUNT counts, by the kind of the next token
 abbrev pub counted_by : Kind → Reader Expression
 counted_by k.Star = expect k.Star >> pure e.CountRows
-counted_by _ = e.Aggregate a.Count <$> column
+counted_by _ = e.Aggregate a.Count <$> argument
 
--- "*" or a column
+-- "*" or an argument
 unfoldable pub counted_inside : Reader Expression
 counted_inside = by_kind counted_by
 
@@ -176,9 +188,9 @@ module _ (depth : ℕ) (inner : Want → Reader PartInParentheses) where
   unfoldable pub inner_test : Reader PartInParentheses
   inner_test = inner want.Any >>= as_test
 
-  -- "(" column ")"
+  -- "(" argument ")"
   unfoldable pub aggregate_of : Aggregate → Reader Expression
-  aggregate_of f = e.Aggregate f <$> parens depth column
+  aggregate_of f = e.Aggregate f <$> parens depth argument
 
   -- what follows COUNT
   unfoldable pub counted : Reader Expression

@@ -50,7 +50,7 @@
 //! expr   = term { ( "+" | "-" ) term }      term = factor { "*" factor }      factor = [sign] prim
 //! prim   = number | text | colref | agg | "(" expr ")" | "(" query ")"
 //! colref = name [ "." name ]
-//! agg    = COUNT "(" "*" ")" | ( COUNT | SUM | MIN | MAX ) "(" colref ")"
+//! agg    = COUNT "(" "*" ")" | ( COUNT | SUM | MIN | MAX ) "(" [ ALL | DISTINCT ] colref ")"
 //! query  = SELECT ( "*" | expr ) FROM name [ [AS] name ] [WHERE cond]
 //!          [GROUP BY colref] [HAVING cond]
 //! ```
@@ -115,5 +115,7 @@ pub use definitions::{Attributes, ColumnDefinition, Definition, Marks};
 pub use laws::condition_has_one_tree;
 pub use statement_laws::{event_has_one_tree, schema_has_one_tree, script_has_one_tree};
 pub use statements::{Assignment, Event, Insert, Mode, ScriptLine, Statement, UpdateSource, Which};
-pub use trees::{Aggregate, ColumnName, Condition, Expression, Query, SelectList};
+pub use trees::{
+    Aggregate, Argument, ColumnName, Condition, Expression, Query, SelectList, SetQuantifier,
+};
 pub use wants::{PartInParentheses, Want};

@@ -19,6 +19,22 @@ pub struct ColumnName {
     pub name: Text,
 }
 
+/// What a set function does with values that stand several times, the standard's set quantifier (6.5).
+#[derive(Clone, Copy, Debug, PartialEq, Eq)]
+pub enum SetQuantifier {
+    /// Each is taken as often as it stands. So it is where none is written.
+    All,
+    /// Each is taken once.
+    Distinct,
+}
+
+/// What a set function is of: `[ALL | DISTINCT] column`.
+#[derive(Drop)]
+pub struct Argument {
+    pub quantifier: SetQuantifier,
+    pub column: ColumnName,
+}
+
 /// An expression. A sum and a product have two parts or more, and no part of a product is a
 /// product; a sum among the parts of a sum stands under a negation.
 #[derive(Drop)]
@@ -30,7 +46,7 @@ pub enum Expression {
     Column(ColumnName),
     /// `COUNT(*)`.
     CountRows,
-    Aggregate(Aggregate, ColumnName),
+    Aggregate(Aggregate, Argument),
     /// A query that stands for its one value.
     Subquery(Boxed<Query>),
     Negation(Boxed<Expression>),

@@ -8,6 +8,8 @@ use Rattle.table.specs.declared.slots.SlotKind.TheVariants.{Count, Sum, Extreme}
 abbrev pub kind_of_aggregate : Aggregate → SlotKind
 kind_of_aggregate aggregate.CountRows = Count
 kind_of_aggregate (aggregate.Count column) = Count
+kind_of_aggregate (aggregate.CountDistinct column) = Count
 kind_of_aggregate (aggregate.Sum column) = Sum
+kind_of_aggregate (aggregate.SumDistinct column) = Sum
 kind_of_aggregate (aggregate.Min column) = Extreme
 kind_of_aggregate (aggregate.Max column) = Extreme

@@ -94,9 +94,10 @@ fn show_expression(out: &mut String, expression: &Expression) -> Result<(), Allo
         Expression::Text(text) => write!(out, " '{text}'"),
         Expression::Column(column) => show_column(out, column),
         Expression::CountRows => out.push_str(" count"),
-        Expression::Aggregate(function, column) => {
-            write!(out, " {function:?} of")?;
-            show_column(out, column)
+        Expression::Aggregate(function, argument) => {
+            let quantifier = argument.quantifier;
+            write!(out, " {function:?} of {quantifier:?}")?;
+            show_column(out, &argument.column)
         }
         Expression::Subquery(query) => show_query(out, query.get()),
         Expression::Negation(part) => {
@@ -308,7 +309,7 @@ const PLACES: [&str; 14] = [
     "SELECT * FROM T WHERE A BETWEEN ? AND ? AND B NOT BETWEEN ?AND ?",
     "SELECT A, B FROM T WHERE A IN (?, ?, B - ?) OR (? = 1) IS NOT TRUE",
     "SELECT A FROM T WHERE ? IS NULL OR A + ? IS NOT NULL",
-    "SELECT A FROM T WHERE EXISTS (SELECT ? FROM U X WHERE X.A = ? GROUP BY X.B HAVING SUM(X.C) > ?)",
+    "SELECT A FROM T WHERE EXISTS (SELECT ? FROM U X WHERE X.A = ? GROUP BY X.B HAVING SUM(DISTINCT X.C) > ?)",
     "SELECT A FROM T WHERE (SELECT MAX(A) + ? FROM U WHERE B = ?) <= ? - 1",
     "DELETE FROM T WHERE A = 'it''s ?' OR A = ? -- ?",
     "DELETE FROM T WHERE A = (SELECT COUNT(*)-? FROM U) + 3 - ? + - 4",

@@ -45,6 +45,7 @@ pub enum Kind {
     Deferrable,
     Deferred,
     Delete,
+    Distinct,
     Exists,
     False,
     From,
@@ -145,8 +146,9 @@ pub(crate) const WORDS_OF_7: [(&[u8], Kind); 6] = [
     (b"VERDICT", Kind::Verdict),
 ];
 
-pub(crate) const WORDS_OF_8: [(&[u8], Kind); 2] = [
+pub(crate) const WORDS_OF_8: [(&[u8], Kind); 3] = [
     (b"DEFERRED", Kind::Deferred),
+    (b"DISTINCT", Kind::Distinct),
     (b"ROLLBACK", Kind::Rollback),
 ];
 

@@ -3,7 +3,7 @@
 //! A text is a list of bytes. Its tokens follow SQL-92 (ISO/IEC 9075:1992, tokens and
 //! separators), cut to what this project reads:
 //!
-//! - a word: a letter, then letters, digits and `_`. It is one of fifty reserved words, or else a
+//! - a word: a letter, then letters, digits and `_`. It is one of fifty-one reserved words, or else a
 //!   name; case does not count, and a name is taken in upper case. (The list of reserved words and
 //!   the limit of 128 bytes, SQL-92's limit of an identifier, are this project's choice.)
 //! - a number: the longest run of digits, at most 10^15 (this project's choice). A number directly

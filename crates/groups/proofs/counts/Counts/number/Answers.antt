@@ -1,7 +1,7 @@
 use Rattle.std.proofs.Common.{ℕ, ◌∙◌, ap, Option}
 use Rattle.std.specs.Prelude.{unwrap_or}
 use Rattle.groups.proofs.CountLemmas.{count_at-entry}
-use Rattle.groups.proofs.counts.Counts.count.Goals as goal
+use Rattle.groups.proofs.counts.Counts.number.Goals as goal
 
 pub returns : goal.returns
 returns c =

@@ -4,7 +4,7 @@ use Rattle.value.specs.ValueOrder.{value_cmp}
 use Rattle.pages.specs.Reach.{key_of, entry_of}
 use Rattle.groups.specs.Counts.{count_from}
 use Rattle.groups.proofs.CountLemmas.{put_count-entry}
-use Rattle.groups.proofs.counts.Counts.with.Goals as goal
+use Rattle.groups.proofs.counts.Counts.put.Goals as goal
 
 pub returns : goal.returns
 returns c =
