@@ -44,12 +44,9 @@ pub fn aggregate_type(columns: &[Column], aggregate: Aggregate) -> Option<DataTy
         Aggregate::CountRows | Aggregate::Count(_) | Aggregate::CountDistinct(_) => {
             Some(DataType::Number)
         }
-        Aggregate::Sum(column) | Aggregate::SumDistinct(column) => {
-            match column_type(columns, column) {
-                Some(DataType::Number) => Some(DataType::Number),
-                Some(DataType::Text) | None => None,
-            }
-        }
+        Aggregate::Sum(column) | Aggregate::SumDistinct(column)
+            if is_number(column_type(columns, column)) => { Some(DataType::Number) }
+        Aggregate::Sum(_) | Aggregate::SumDistinct(_) => None,
         Aggregate::Min(column) | Aggregate::Max(column) => column_type(columns, column),
     }
 }
