@@ -6,9 +6,11 @@
 A transaction is BEGIN, one UPDATE of a row by its key under a rule by groups, and COMMIT, by one session, each COMMIT
 synced by itself or up to so many with one sync. The sides take turns on the same folder: the shell with --journal, the
 shell without, SQLite through the module sqlite3 with a write-ahead log, synchronous=FULL and then NORMAL (which may
-lose what was acknowledged), and a bare fdatasync of 80 bytes over zeros. The table that docs/PERFORMANCE.md holds is
-printed as it stands there, of medians. Each answer of the shell is looked at. To open: a journal of so many commits is
-made without a sync, line by line as the shell writes them, and a shell without events is timed on it.
+lose what was acknowledged), and a bare fdatasync of 80 bytes over zeros. `threads` takes turns with them, with and
+without --journal, the transactions shared out among so many sessions, each over owners of its own. The table that
+docs/PERFORMANCE.md holds is printed as it stands there, of medians. Each answer of the shell is looked at. To open: a
+journal of so many commits is made without a sync, line by line as the shell writes them, and a shell without events is
+timed on it.
 """
 
 import functools
@@ -24,6 +26,7 @@ from replays import (
 
 ROWS = 1000
 SHARED = 4, 16, 1000  # so many commits share a sync
+SESSIONS = 1, 4, 16  # on so many threads
 
 
 def events(commits: int) -> str:
@@ -45,6 +48,22 @@ def timed_shell(program: Path, folder: pathlib.Path, commits: int, *options: Wor
     seconds = time.perf_counter() - began
     if done.output.count("ME: COMMIT ") != commits:
         sys.exit("not each COMMIT was accepted")
+    return seconds
+
+
+def timed_threads(program: Path, folder: pathlib.Path, commits: int, sessions: int, *options: Word) -> float:
+    """Seconds of so many transactions of sessions on threads, each over owners of its own. The last option is a new
+    journal."""
+    for path in options[1:]:
+        pathlib.Path(str(path)).unlink(missing_ok=True)
+    each, keys = commits // sessions, ROWS // sessions // loads.MEMBERS * loads.MEMBERS
+    script = written(folder / "script.sql", (line for session in range(sessions) for line in loads.transactions(
+        (loads.add_one(session * keys + at * 7 % keys) for at in range(each)), session=f"S{session}")))
+    began = time.perf_counter()
+    done = run([program, "threads", folder / "defs.sql", script, *options], timeout=None)
+    seconds = time.perf_counter() - began
+    if done.status or done.output.count(": COMMIT ") != each * sessions:
+        sys.exit(f"not each COMMIT was accepted: {done.error}")
     return seconds
 
 
@@ -112,7 +131,8 @@ def main() -> None:
         for _ in range(words.repetitions):
             for side, timed in sides.items():
                 seconds[side].append(timed())
-        print("| one session, a sync each but where more share one | commits a second |\n|---|---|")
+        print("| one session where no more are named, a sync each but where more share one | commits a second |")
+        print("|---|---|")
         for side in sides:
             print(f"| {side} | {words.commits / seconds.median(side):,.0f} |")
         opening = statistics.median(timed_opening(words.program, folder, words.open) for _ in range(words.repetitions))
@@ -124,9 +144,14 @@ def sides_of(program: Path, folder: pathlib.Path, commits: int) -> dict[str, Cal
     fresh = functools.partial(timed_fresh, program, folder, commits)
     shared = {f"`shell --journal`, up to {most} commits a sync": functools.partial(fresh, "--sync-every", most)
         for most in SHARED}
+    kept_and_not: list[list[Word]] = [["--journal", folder / "of_threads"], []]
+    threads = {f"`threads{' --journal' * bool(options)}`, {sessions} {'session' if sessions == 1 else 'sessions'}":
+        functools.partial(timed_threads, program, folder, commits, sessions, *options)
+        for options in kept_and_not for sessions in SESSIONS}
     return {
         "`shell --journal`": fresh,
         **shared,
+        **threads,
         "`shell`, in memory alone": lambda: timed_shell(program, folder, commits),
         "SQLite, WAL, FULL": lambda: timed_sqlite(folder, commits, "FULL"),
         "SQLite, WAL, NORMAL": lambda: timed_sqlite(folder, commits, "NORMAL"),

@@ -105,6 +105,7 @@ fn write_all<W: Write>(text: &str, out: &mut W) -> Result<(), CheckFault> {
 /// # Errors
 ///
 /// Where there is no memory for it. A part may be drawn.
+// (what was refused and why, and how and where it is drawn)
 pub fn draw_refused(
     alloc: Global,
     which: Which,
@@ -113,10 +114,14 @@ pub fn draw_refused(
     colour: Colour,
     drawn: &mut String,
 ) -> Result<(), AllocError> {
-    match (which, refusal) {
-        (Which::Defs, Refusal::FalseAtCreation { .. }) => draw_false(alloc, text, colour, drawn),
-        _ => draw_refusal(alloc, which, text, refusal, colour, drawn),
+    if let (Which::Defs, Refusal::FalseAtCreation { .. }) = (which, refusal) {
+        return draw_false(alloc, text, colour, drawn);
     }
+    let mut fault = Diagnosis::new(alloc, which);
+    if diagnose_refusal(alloc, text.bytes, refusal, &mut fault)? {
+        draw(text, &fault, colour, drawn)?;
+    }
+    Ok(())
 }
 
 /// Draws the first fault of definitions that are refused once their rows are put in.
@@ -142,21 +147,6 @@ fn draw_first(
         Some(fault) => draw(text, fault, colour, drawn),
         None => Ok(()),
     }
-}
-
-fn draw_refusal(
-    alloc: Global,
-    which: Which,
-    text: NamedText,
-    refusal: &Refusal,
-    colour: Colour,
-    drawn: &mut String,
-) -> Result<(), AllocError> {
-    let mut fault = Diagnosis::new(alloc, which);
-    if diagnose_refusal(alloc, text.bytes, refusal, &mut fault)? {
-        draw(text, &fault, colour, drawn)?;
-    }
-    Ok(())
 }
 
 /// Says why a text was refused, if the refusal says something of it.

@@ -1,17 +1,20 @@
 //! Two texts are looked at: their faults, and what they define.
 
-use assertion::{Assertion, Form};
+use crate::figures::distinct;
+use crate::scans::{Scan, push_scans};
+use assertion::Form;
 use definitions::Definitions;
 use delta::View;
 use diagnosis::{
-    BadRow, DefinitionsText, diagnose_definitions, diagnose_false, diagnose_statement,
+    BadRow, DefinitionsText, FalseAssertion, ScriptStatement, diagnose_definitions, diagnose_false,
+    diagnose_statement,
 };
 use faults::{At, Diagnosis, NamedText, Which, diagnose_grammar};
 use parse::{parse_schema, parse_script};
 use replay::MOST_SESSIONS;
 use std::alloc::{AllocError, Global};
-use syntax::{Event, ScriptLine, Statement};
-use value::{Refusal, Root, Text};
+use syntax::{Event, ScriptLine};
+use value::{Refusal, Root};
 
 /// Two texts that are looked at together: definitions, and a script if there is one.
 #[derive(Clone, Copy)]
@@ -45,6 +48,8 @@ pub struct Examination {
     pub faults: Vec<Diagnosis>,
     /// The first statements of the script that are refused whatever the rows are.
     pub notes: Vec<Diagnosis>,
+    /// The first statements of the script that look at every row of their table.
+    pub scans: Vec<Scan>,
 }
 
 impl Examination {
@@ -56,6 +61,7 @@ impl Examination {
             sessions: 0,
             faults: Vec::new(alloc),
             notes: Vec::new(alloc),
+            scans: Vec::new(alloc),
         }
     }
 }
@@ -157,26 +163,36 @@ fn push_first_false(
     view: &View,
     faults: &mut Vec<Diagnosis>,
 ) -> Result<(), AllocError> {
-    for place in 0..view.assertions().len() {
-        if let Some(root) = view.least_bad(place) {
-            return push_false(alloc, text, view, &view.assertions()[place], root, faults);
-        }
+    match first_false(view) {
+        Some(found) => push_false(alloc, text, found, faults),
+        None => Ok(()),
     }
-    Ok(())
 }
 
-/// Puts the fault of an assertion that is false at this root, its least bad one, behind the others.
+/// The first assertion that is false on a view, at its least bad root.
+fn first_false(view: &View) -> Option<FalseAssertion<'_>> {
+    for place in 0..view.assertions().len() {
+        if let Some(root) = view.least_bad(place) {
+            let assertion = &view.assertions()[place];
+            return Some(FalseAssertion {
+                name: &assertion.name,
+                root,
+                row: bad_row(view, &assertion.form, root),
+            });
+        }
+    }
+    None
+}
+
+/// Puts the fault of an assertion that is false behind the others.
 fn push_false(
     alloc: Global,
     text: DefinitionsText,
-    view: &View,
-    assertion: &Assertion,
-    root: &Root,
+    found: FalseAssertion,
     faults: &mut Vec<Diagnosis>,
 ) -> Result<(), AllocError> {
-    let row = bad_row(view, &assertion.form, root);
     let mut fault = Diagnosis::new(alloc, Which::Defs);
-    diagnose_false(alloc, text, &assertion.name, root, row, &mut fault)?;
+    diagnose_false(alloc, text, found, &mut fault)?;
     faults.push(fault)?;
     Ok(())
 }
@@ -205,7 +221,10 @@ fn look_at_lines(
         push_too_many(alloc, found.sessions, &mut found.faults)?;
     }
     match &found.view {
-        Some(view) => push_notes(alloc, bytes, lines, view, &mut found.notes),
+        Some(view) => {
+            push_notes(alloc, bytes, lines, view, &mut found.notes)?;
+            push_scans(alloc, lines, view, &mut found.scans)
+        }
         None => Ok(()),
     }
 }
@@ -240,7 +259,12 @@ fn push_notes(
             return Ok(());
         }
         if let Event::Run(statement) = &line.event {
-            push_note(alloc, bytes, place, statement, view, notes)?;
+            let line = ScriptStatement {
+                bytes,
+                place,
+                statement,
+            };
+            push_note(alloc, line, view, notes)?;
         }
     }
     Ok(())
@@ -249,14 +273,12 @@ fn push_notes(
 /// Puts a statement behind the others, if it is always refused.
 fn push_note(
     alloc: Global,
-    bytes: &[u8],
-    place: usize,
-    statement: &Statement,
+    line: ScriptStatement,
     view: &View,
     notes: &mut Vec<Diagnosis>,
 ) -> Result<(), AllocError> {
     let mut note = Diagnosis::new(alloc, Which::Script);
-    if diagnose_statement(alloc, bytes, place, statement, view, &mut note)? {
+    if diagnose_statement(alloc, line, view, &mut note)? {
         notes.push(note)?;
     }
     Ok(())
@@ -269,13 +291,5 @@ fn session_count(alloc: Global, lines: &[ScriptLine]) -> Result<usize, AllocErro
         names.push(&line.session)?;
     }
     names.sort_unstable();
-    let mut count = 0usize;
-    let mut last: Option<&Text> = None;
-    for name in &names {
-        if last != Some(*name) {
-            count = count.saturating_add(1);
-        }
-        last = Some(*name);
-    }
-    Ok(count)
+    Ok(distinct(&names))
 }

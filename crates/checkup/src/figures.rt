@@ -44,6 +44,17 @@ struct Selection<'a> {
     grouping: Grouping,
 }
 
+impl<'a> Selection<'a> {
+    /// The rows of a query that is linked to a row around it.
+    fn linked(query: &'a Query<Link>) -> Selection<'a> {
+        Selection {
+            table: query.table,
+            filter: &query.filter,
+            grouping: Grouping::Linked(query.grouping),
+        }
+    }
+}
+
 /// How many rows a WHERE keeps that go to a group, and how many groups they make.
 #[derive(Clone, Copy)]
 pub struct Counts {
@@ -134,7 +145,14 @@ pub fn put_figures(
             table,
             condition,
             queries,
-        } => by_row(alloc, view, *table, condition, queries.as_slice(), figures),
+        } => {
+            let rule = RowRule {
+                table: *table,
+                condition,
+                queries: queries.as_slice(),
+            };
+            by_row(alloc, view, rule, figures)
+        }
         Form::ByGroup {
             table,
             filter,
@@ -153,57 +171,64 @@ pub fn put_figures(
     }
 }
 
+/// A rule by rows of a table: its condition, and the queries in it.
+#[derive(Clone, Copy)]
+struct RowRule<'a> {
+    table: usize,
+    condition: &'a Cond,
+    queries: &'a [Query<Link>],
+}
+
 fn by_row(
     alloc: Global,
     view: &View,
-    table: usize,
-    condition: &Cond,
-    queries: &[Query<Link>],
+    rule: RowRule,
     figures: &mut Figures,
 ) -> Result<(), AllocError> {
-    let rows = row_count(view, table);
+    let rows = row_count(view, rule.table);
     figures.counts = Counts { rows, groups: rows };
-    let key = view.key_column(table);
+    let key = view.key_column(rule.table);
     let mut columns = Vec::new(alloc);
-    add_row_columns(key, condition, queries, &mut columns)?;
-    put_reading(alloc, table, Some(key), &columns, &mut figures.readings)?;
-    put_linked(alloc, view, table, queries, figures)
+    add_column(&mut columns, key)?;
+    add_row_columns(rule, &mut columns)?;
+    put_reading(
+        alloc,
+        rule.table,
+        Some(key),
+        &columns,
+        &mut figures.readings,
+    )?;
+    put_linked(alloc, view, rule, figures)
 }
 
-/// Puts the columns of a row that are looked at where a rule by rows is checked among others.
-fn add_row_columns(
-    key: usize,
-    condition: &Cond,
-    queries: &[Query<Link>],
-    columns: &mut Vec<usize>,
-) -> Result<(), AllocError> {
-    add_column(columns, key)?;
-    add_condition(columns, condition, WhichRow::Own)?;
-    for query in queries {
+/// Puts the columns of a row that a rule by rows looks at among others.
+fn add_row_columns(rule: RowRule, columns: &mut Vec<usize>) -> Result<(), AllocError> {
+    add_condition(columns, rule.condition, WhichRow::Own)?;
+    for query in rule.queries {
         add_column(columns, query.grouping.outer)?;
         add_condition(columns, &query.filter, WhichRow::Around)?;
     }
     Ok(())
 }
 
-/// Puts what is maintained of the linked queries of a row of this table behind the others.
+/// Puts what is maintained of the queries of a rule by rows behind the others.
 fn put_linked(
     alloc: Global,
     view: &View,
-    around: usize,
-    queries: &[Query<Link>],
+    rule: RowRule,
     figures: &mut Figures,
 ) -> Result<(), AllocError> {
-    for query in queries {
-        let rows = Selection {
-            table: query.table,
-            filter: &query.filter,
-            grouping: Grouping::Linked(query.grouping),
-        };
+    for query in rule.queries {
         if query.filter.has_slots() {
-            put_beside(alloc, view, around, query, rows, figures)?;
+            put_beside(alloc, view, rule.table, query, figures)?;
         } else {
-            put_total(alloc, view, rows, query.aggregate, figures)?;
+            put_total(
+                alloc,
+                view,
+                Selection::linked(query),
+                query.aggregate,
+                figures,
+            )?;
         }
     }
     Ok(())
@@ -215,16 +240,15 @@ fn put_beside(
     view: &View,
     around: usize,
     query: &Query<Link>,
-    rows: Selection,
     figures: &mut Figures,
 ) -> Result<(), AllocError> {
-    let mut kept = MaintainedFunction::new(alloc, rows, query.aggregate);
+    let mut kept = MaintainedFunction::new(alloc, Selection::linked(query), query.aggregate);
     kept.counts = count_pairs(alloc, view, around, query)?;
     if query.grouping.inner != view.key_column(query.table) {
         kept.upkeep = Upkeep::RowsAround;
     }
     add_condition(&mut kept.beside, &query.filter, WhichRow::Around)?;
-    put_kept(alloc, rows.filter, kept, figures)
+    put_kept(alloc, &query.filter, kept, figures)
 }
 
 fn by_group(
@@ -391,15 +415,15 @@ fn group_of(is_link: bool, row: &Row) -> Option<&Value> {
     }
 }
 
-/// How many values there are in a list in order, each counted once.
-fn distinct(values: &[&Value]) -> usize {
+/// How many items there are in a list in order, each counted once.
+pub fn distinct<T: PartialEq>(items: &[&T]) -> usize {
     let mut count = 0usize;
-    let mut last: Option<&Value> = None;
-    for value in values {
-        if last != Some(*value) {
+    let mut last: Option<&T> = None;
+    for item in items {
+        if last != Some(*item) {
             count = count.saturating_add(1);
         }
-        last = Some(*value);
+        last = Some(*item);
     }
     count
 }

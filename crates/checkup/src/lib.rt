@@ -19,6 +19,7 @@ mod naming;
 mod objects;
 mod pairs;
 mod refused_texts;
+mod scans;
 mod texts;
 
 pub use calls::{CheckFault, Health, Style, check_into, draw_refused};

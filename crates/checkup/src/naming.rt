@@ -1,5 +1,6 @@
 //! The names of tables, columns and set functions, as SQL writes them.
 
+use printout::opening_of;
 use std::alloc::AllocError;
 use std::str;
 use table::{Aggregate, Catalog};
@@ -52,15 +53,9 @@ pub fn push_function(
     function: Aggregate,
     text: &mut String,
 ) -> Result<(), AllocError> {
-    let (opening, column) = match function {
-        Aggregate::CountRows => return text.push_str("COUNT(*)"),
-        Aggregate::Count(column) => ("COUNT(", column),
-        Aggregate::CountDistinct(column) => ("COUNT(DISTINCT ", column),
-        Aggregate::Sum(column) => ("SUM(", column),
-        Aggregate::SumDistinct(column) => ("SUM(DISTINCT ", column),
-        Aggregate::Min(column) => ("MIN(", column),
-        Aggregate::Max(column) => ("MAX(", column),
-    };
-    let column = column_name(catalog, table, column);
-    write!(text, "{opening}{column})")
+    text.push_str(opening_of(function))?;
+    if let Some(column) = function.column() {
+        text.push_str(column_name(catalog, table, column))?;
+    }
+    text.push_str(")")
 }

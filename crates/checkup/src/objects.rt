@@ -3,6 +3,8 @@
 use crate::examinations::{Examination, Texts};
 use crate::figures::{Figures, MaintainedFunction, Reading, Upkeep, put_figures, row_count};
 use crate::naming::{column_name, name_text, push_function, table_name};
+use crate::scans::Scan;
+use crate::texts::line_of;
 use assertion::{Assertion, Form};
 use delta::View;
 use faults::{At, Diagnosis, NamedText, Span, place_of};
@@ -29,6 +31,7 @@ fn object(alloc: Global, texts: Texts, found: &Examination) -> Result<Value, All
     let assertions = assertions(alloc, &found.view)?;
     let faults = diagnoses(alloc, texts, &found.faults)?;
     let notes = diagnoses(alloc, texts, &found.notes)?;
+    let scans = scans(alloc, texts, found)?;
     let events = found.events;
     let sessions = found.sessions;
     json!(in alloc; {
@@ -38,7 +41,8 @@ fn object(alloc: Global, texts: Texts, found: &Examination) -> Result<Value, All
         "events": events,
         "sessions": sessions,
         "faults": faults,
-        "notes": notes
+        "notes": notes,
+        "scans": scans
     })
 }
 
@@ -81,6 +85,31 @@ fn diagnosis_object(
         "start": (span.start),
         "end": (span.end)
     })
+}
+
+/// The statements that look at every row of their table.
+fn scans(alloc: Global, texts: Texts, found: &Examination) -> Result<Value, AllocError> {
+    let mut made = Vec::new(alloc);
+    if let (Some(view), Some(script)) = (&found.view, texts.script) {
+        for scan in &found.scans {
+            made.push(scan_object(alloc, script, view.catalog(), *scan)?)?;
+        }
+    }
+    Ok(Value::Array(made))
+}
+
+/// Such a statement: its line, its table, and the column by which an index would spare it that, or null.
+fn scan_object(
+    alloc: Global,
+    script: NamedText,
+    catalog: &Catalog,
+    scan: Scan,
+) -> Result<Value, AllocError> {
+    let file = script.name;
+    let line = line_of(alloc, script, scan.place)?;
+    let table = table_name(catalog, scan.table);
+    let column = column_or_null(alloc, catalog, scan.table, scan.column)?;
+    json!(in alloc; {"file": file, "line": line, "table": table, "column": column})
 }
 
 /// The lines of a text.

@@ -5,9 +5,10 @@ use crate::figures::{
     Figures, Grouping, MaintainedFunction, Reading, Upkeep, put_figures, row_count,
 };
 use crate::naming::{column_name, push_column_names, push_function, table_name};
+use crate::scans::{MOST_SCANS, Scan};
 use assertion::{Assertion, Form};
 use delta::View;
-use faults::{Colour, Diagnosis, draw};
+use faults::{Colour, Diagnosis, NamedText, Piece, draw, place_of};
 use std::alloc::{AllocError, Global};
 use table::Catalog;
 use value::Truth;
@@ -24,6 +25,7 @@ pub fn show(
         show_view(alloc, view, colour, shown)?;
     }
     show_notes(texts, &found.notes, colour, shown)?;
+    show_scans(alloc, texts, found, shown)?;
     for fault in &found.faults {
         show_diagnosis(texts, fault, colour, shown)?;
     }
@@ -65,6 +67,58 @@ fn show_notes(
         shown.push_str("(The statements behind it were not looked at.)\n")?;
     }
     Ok(())
+}
+
+/// The first statements that look at every row of their table.
+fn show_scans(
+    alloc: Global,
+    texts: Texts,
+    found: &Examination,
+    shown: &mut String,
+) -> Result<(), AllocError> {
+    let (Some(view), Some(script)) = (&found.view, texts.script) else {
+        return Ok(());
+    };
+    for scan in &found.scans {
+        show_scan(alloc, script, view.catalog(), *scan, shown)?;
+    }
+    if found.scans.len() >= MOST_SCANS {
+        shown.push_str("(The statements behind it were not looked at.)\n")?;
+    }
+    if !found.scans.is_empty() {
+        shown.push_str("\n")?;
+    }
+    Ok(())
+}
+
+/// A statement that looks at every row of its table, and the index that would spare it that, if one would.
+fn show_scan(
+    alloc: Global,
+    script: NamedText,
+    catalog: &Catalog,
+    scan: Scan,
+    shown: &mut String,
+) -> Result<(), AllocError> {
+    let line = line_of(alloc, script, scan.place)?;
+    let (file, table) = (script.name, table_name(catalog, scan.table));
+    write!(
+        shown,
+        "SCAN {file}:{line}: every row of {table} is looked at"
+    )?;
+    if let Some(column) = scan.column {
+        let column = column_name(catalog, scan.table, column);
+        write!(
+            shown,
+            "; CREATE INDEX name ON {table} ({column}) would spare that"
+        )?;
+    }
+    shown.push_str("\n")
+}
+
+/// The line of a script in which an event begins.
+pub fn line_of(alloc: Global, script: NamedText, place: usize) -> Result<usize, AllocError> {
+    let piece = Piece::at(alloc, script.bytes, place)?;
+    Ok(place_of(script.bytes, piece.whole().start).line)
 }
 
 /// A fault or a note in the text that it is of.

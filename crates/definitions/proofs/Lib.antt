@@ -1,4 +1,5 @@
 pub mod GoodTables
 pub mod OneMore
 pub mod Redeclaring
+pub mod WithoutIndexes
 pub mod WrittenAssertions

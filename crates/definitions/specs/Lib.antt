@@ -1,3 +1,4 @@
+pub mod Indexes
 pub mod Redeclaration
 pub mod Tables
 pub mod Taken

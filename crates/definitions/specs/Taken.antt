@@ -1,10 +1,10 @@
 -- What definitions define, taken in one after the other: tables, assertions, and the rows that the tables begin with.
-use Rattle.std.specs.Prelude.{ℕ, Bool, not, List, [], ◌∷◌, ◌++◌, is_none, Result, Ok}
+use Rattle.std.specs.Prelude.{ℕ, Bool, not, List, [], ◌∷◌, ◌++◌, is_none, is_some, Option, Some, None, Result, Ok, if◌then◌else◌}
 use Rattle.std.specs.List.{list_any}
 use Rattle.std.specs.Str.{bytes_eq}
 use Rattle.value.specs.declared.refusals.Refusal.{Refusal}
-use Rattle.value.specs.declared.refusals.Refusal.TheVariants.{NameTaken}
-use Rattle.table.specs.Rows.{layout_of}
+use Rattle.value.specs.declared.refusals.Refusal.TheVariants.{NameTaken, UnknownName}
+use Rattle.table.specs.Rows.{layout_of, column_of}
 use Rattle.syntax.specs.declared.trees.Condition.{Condition}
 use Rattle.syntax.specs.declared.definitions.Attributes.{Attributes}
 use Rattle.syntax.specs.declared.definitions.ColumnDefinition.{ColumnDefinition}
@@ -13,8 +13,9 @@ use Rattle.syntax.specs.declared.definitions.Definition.TheVariants as definitio
 use Rattle.assertion.specs.declared.assertions.Assertion.{Assertion}
 use Rattle.delta.specs.Views.{ViewState}
 use Rattle.changes.specs.Insertions.{tables_after_insert}
-use Rattle.value.specs.Results.{and_then, if_holds}
+use Rattle.value.specs.Results.{and_then, if_holds, unless}
 use Rattle.assertcheck.specs.Assertions.{checked_assertion}
+use Rattle.assertcheck.specs.Conditions.{target_of}
 use Rattle.definitions.specs.Tables.{layout_from}
 
 -- before the first definition: no table, no assertion, no row
@@ -41,17 +42,59 @@ with_assertion name condition attributes now =
     and_then (checked_assertion now.declared.tables name condition attributes)
     (λ a. Ok (record now { declared = record (now.declared) { assertions = now.declared.assertions ++ a ∷ [] } })))
 
+-- CREATE INDEX: its table is there, and has the column. It changes nothing
+abbrev pub with_index : List ℕ → List ℕ → ViewState → Result ViewState Refusal
+with_index table column now =
+    and_then (target_of now.declared.tables table) (λ target.
+    if_holds (is_some (column_of column target.scope.layout.columns)) (UnknownName column) (Ok now))
+
 -- one definition; no assertion is looked at where a row is put in
 abbrev pub with_definition : Definition → ViewState → Result ViewState Refusal
 with_definition (definition.Table name columns) now = with_table name columns now
 with_definition (definition.Assertion name condition attributes) now = with_assertion name condition attributes now
 with_definition (definition.Insert insert) now = tables_after_insert now insert
+with_definition (definition.Index name table column) now = with_index table column now
+
+-- what the definitions so far define, and the names of their indexes
+pub record Taken : Type 0 where
+  pub shown : ViewState
+  pub indexes : List (List ℕ)
+
+-- the index that a definition creates, if it creates one
+abbrev pub index_in : Definition → List (List ℕ)
+index_in (definition.Table name columns) = []
+index_in (definition.Assertion name condition attributes) = []
+index_in (definition.Insert insert) = []
+index_in (definition.Index name table column) = name ∷ []
+
+-- the fault of an index whose name another index has
+abbrev pub index_fault : List (List ℕ) → Definition → Option Refusal
+index_fault names (definition.Table name columns) = None
+index_fault names (definition.Assertion name condition attributes) = None
+index_fault names (definition.Insert insert) = None
+index_fault names (definition.Index name table column) =
+    if list_any (λ other. bytes_eq other name) names then Some (NameTaken name) else None
+
+-- one definition more
+abbrev pub taken_with : Definition → Taken → Result Taken Refusal
+taken_with d taken =
+    unless (index_fault taken.indexes d) (
+    and_then (with_definition d taken.shown)
+    (λ shown. Ok (record { shown = shown; indexes = taken.indexes ++ index_in d })))
 
 -- several, in their order
-abbrev pub with_all : List Definition → ViewState → Result ViewState Refusal
-with_all [] now = Ok now
-with_all (d ∷ rest) now = and_then (with_definition d now) (with_all rest)
+abbrev pub with_all : List Definition → Taken → Result Taken Refusal
+with_all [] taken = Ok taken
+with_all (d ∷ rest) taken = and_then (taken_with d taken) (with_all rest)
 
--- what definitions define, or their first fault in the order in which they stand
+-- before the first definition
+abbrev pub nothing_taken : Taken
+nothing_taken = record { shown = empty_database; indexes = [] }
+
+-- what definitions define, with the names of their indexes, or their first fault in the order in which they stand
+abbrev pub taken_of : List Definition → Result Taken Refusal
+taken_of definitions = with_all definitions nothing_taken
+
+-- what definitions define, or their first fault
 abbrev pub view_of_definitions : List Definition → Result ViewState Refusal
-view_of_definitions definitions = with_all definitions empty_database
+view_of_definitions definitions = and_then (taken_of definitions) (λ taken. Ok taken.shown)

@@ -12,6 +12,7 @@ abbrev pub is_assertion : Definition → Bool
 is_assertion (definition.Table name columns) = false
 is_assertion (definition.Assertion name condition attributes) = true
 is_assertion (definition.Insert insert) = false
+is_assertion (definition.Index name table column) = false
 
 -- an assertion is the one that a definition writes
 abbrev pub IsDefined : Tables → Definition → Assertion → Type 0
@@ -19,6 +20,7 @@ IsDefined tables (definition.Table name columns) assertion = ⊥
 IsDefined tables (definition.Assertion name condition attributes) assertion =
     IsWritten tables name condition attributes assertion
 IsDefined tables (definition.Insert insert) assertion = ⊥
+IsDefined tables (definition.Index name table column) assertion = ⊥
 
 -- there is an assertion for each CREATE ASSERTION, in their order, which has its name and means what is written
 abbrev pub AreWritten : List Definition → Declared → Type 0

@@ -9,6 +9,10 @@
 //!   assertion is of the class, typed and bounded (`assertcheck`).
 //! - INSERT: a row of constants of the columns' types, NULL only where it may stand, each value in its range, under a
 //!   key that is free.
+//! - CREATE INDEX, which SQL-92 leaves out: the name is free among the indexes, and the table has the column. It
+//!   changes nothing that is defined; the rows of the table keep an index by the column (`mvrows`), and so do all
+//!   versions of them, so that a statement whose WHERE wants a value there looks at no other row.
+//!   [`indexes_change_nothing`] is the law that definitions define the same without their indexes.
 //!
 //! No assertion is evaluated while definitions are taken in. The rows of a schema are loaded one by one, and it is
 //! only when all are there that the assertions have to hold (this project's choice): [`Definitions::load`] is the
@@ -16,7 +20,7 @@
 //!
 //! What the layer above may rest on: [`Definitions::take`] answers what `specs/Taken` says of the list, or its first
 //! fault, or that memory ran out. No list of definitions is needed: they may be handed over one by one, to
-//! [`Definitions::with`] on [`Definitions::new`], and `proofs/OneMore` has the laws by which that comes to the same.
+//! [`Taking::with`] on [`Taking::new`], and `proofs/OneMore` has the laws by which that comes to the same.
 //! What is taken in is always good tables and assertions that are evaluated without
 //! overflow, which is what a view is made of. `specs/Tables` has CREATE TABLE; an INSERT is that of `changes`. And
 //! the assertions are those that are written (`specs/Written`): there is one for each CREATE ASSERTION, in their
@@ -28,9 +32,13 @@
 //! defined it.
 #![tactic(auto)]
 
+mod laws;
 mod redeclaration;
 mod tables;
 mod taken;
+mod takings;
 
+pub use laws::indexes_change_nothing;
 pub use redeclaration::{NewAssertion, new_assertions, redeclare};
 pub use taken::Definitions;
+pub use takings::Taking;

@@ -1,8 +1,8 @@
 //! Definitions are taken in one after the other.
 
-ghost use Rattle.std.specs.Prelude.{◌≡◌, ◌≢◌, ◌<◌, [], ◌∷◌, IfOk, IfErr, Ok, Err, length};
+ghost use Rattle.std.specs.Prelude.{◌≡◌, ◌≢◌, ◌<◌, [], ◌∷◌, IfOk, IfErr, OnOk, Ok, Err, length};
 ghost use Rattle.value.specs.declared.refusals.Refusal.TheVariants.{NoMemory};
-ghost use Rattle.definitions.specs.Taken.{is_asserted, empty_database, view_of_definitions, with_assertion, with_definition, with_table};
+ghost use Rattle.definitions.specs.Taken.{is_asserted, empty_database, view_of_definitions, with_assertion, with_definition, with_index, with_table};
 ghost use Rattle.definitions.specs.Written.{AreWritten};
 ghost use Rattle.assertion.specs.Declarations.{layouts_in};
 ghost use Rattle.assertion.specs.Changes.{IsChangeOf, state_after};
@@ -12,10 +12,12 @@ ghost use Rattle.changes.specs.Insertions.{tables_after_insert};
 ghost use Rattle.delta.specs.Views.{IsFitting};
 
 use crate::tables::schema_of;
+use crate::takings::Taking;
 use assertcheck::{NewRow, check, check_insert};
 use assertion::Assertion;
 use changes::insertion;
 use delta::{View, copy_assertions, copy_catalog, put_change};
+use form_check::Source;
 use mvrows::Rows;
 use std::alloc::{AllocError, Global};
 use std::marker::Model;
@@ -53,7 +55,7 @@ impl Model for Definitions {
 
 impl Definitions {
     /// No table and no assertion, before the first definition.
-    pub fn new(alloc: Global) -> Definitions
+    pub(crate) fn new(alloc: Global) -> Definitions
         ensures { result ≡ empty_database }
     {
         Definitions {
@@ -63,7 +65,8 @@ impl Definitions {
         }
     }
 
-    /// These with one more definition. No assertion is evaluated. Of the definition's tree nothing is kept.
+    /// These with one more definition. No assertion is evaluated. Of the definition's tree nothing is kept. Whether an
+    /// index has the name of another is for [`Taking::with`](crate::Taking::with) to ask.
     ///
     /// # Errors
     ///
@@ -71,8 +74,9 @@ impl Definitions {
     /// then of a column that stands twice, then [`Refusal::OutsideClass`] unless exactly one column is the key. CREATE
     /// ASSERTION: [`Refusal::NameTaken`], and then what `assertcheck::check` answers. INSERT: what
     /// `assertcheck::check_insert` answers, then by columns [`Refusal::NullNotAllowed`] and [`Refusal::OutOfRange`],
-    /// and last [`Refusal::DuplicateKey`]. Or [`Refusal::NoMemory`].
-    pub fn with(self, alloc: Global, definition: &Definition) -> Result<Definitions, Refusal>
+    /// and last [`Refusal::DuplicateKey`]. CREATE INDEX: [`Refusal::UnknownName`] of the table, then of the column. Or
+    /// [`Refusal::NoMemory`].
+    pub(crate) fn with(self, alloc: Global, definition: &Definition) -> Result<Definitions, Refusal>
         ensures taken { IfOk result (λ made. with_definition definition.now self ≡ Ok made) }
         ensures refused { IfErr result (λ refusal. refusal ≢ NoMemory
             → with_definition definition.now self ≡ Err refusal) }
@@ -85,6 +89,7 @@ impl Definitions {
                 attributes,
             } => self.with_assertion(alloc, name, condition, *attributes),
             Definition::Insert(insert) => self.with_row(alloc, insert),
+            Definition::Index { table, column, .. } => self.with_index(table, column),
         }
     }
 
@@ -93,7 +98,7 @@ impl Definitions {
     ///
     /// # Errors
     ///
-    /// The first fault, which is that of the first definition that [`Definitions::with`] refuses. Or
+    /// The first fault, which is that of the first definition that [`Taking::with`](crate::Taking::with) refuses. Or
     /// [`Refusal::NoMemory`].
     pub fn take(alloc: Global, definitions: &[Definition]) -> Result<Definitions, Refusal>
         ensures taken { IfOk result (λ made. view_of_definitions definitions.now ≡ Ok made) }
@@ -101,11 +106,11 @@ impl Definitions {
             refusal ≢ NoMemory → view_of_definitions definitions.now ≡ Err refusal) }
         ensures written { IfOk result (λ made. AreWritten definitions.now made.declared) }
     {
-        let mut made = Definitions::new(alloc);
+        let mut taking = Taking::new(alloc);
         for definition in definitions {
-            made = made.with(alloc, definition)?;
+            taking = taking.with(alloc, definition)?;
         }
-        Ok(made)
+        Ok(taking.into_definitions())
     }
 
     /// What a view shows, as if it were defined by a schema: so that what one run left is what another begins with. The
@@ -208,6 +213,50 @@ impl Definitions {
         Ok(self.with_change(&change)?)
     }
 
+    /// CREATE INDEX: its table has such a column. What is defined stays as it is; from here on the rows that have a
+    /// value in the column are found in a few steps.
+    fn with_index(self, table: &Text, column: &Text) -> Result<Definitions, Refusal>
+        ensures taken { IfOk result (λ made. with_index table.now column.now self ≡ Ok made) }
+        ensures refused { IfErr result (λ refusal. refusal ≢ NoMemory
+            → with_index table.now column.now self ≡ Err refusal) }
+    {
+        let place = self.indexed_place(table, column)?;
+        let Definitions {
+            catalog,
+            assertions,
+            mut rows,
+        } = self;
+        index_rows(&mut rows, place)?;
+        Ok(Definitions {
+            catalog,
+            assertions,
+            rows,
+        })
+    }
+
+    /// Where an index by this column of this table is to stand.
+    fn indexed_place(&self, table: &Text, column: &Text) -> Result<IndexedPlace, Refusal>
+        ensures there { OnOk result (with_index table.now column.now self.now ≡ Ok self.now) }
+        ensures refused { IfErr result (λ refusal. refusal ≢ NoMemory
+            → with_index table.now column.now self.now ≡ Err refusal) }
+    {
+        let Some(source) = Source::by_table_name(&self.catalog, table) else {
+            return Err(Refusal::UnknownName {
+                name: table.copy()?,
+            });
+        };
+        match source.scope.schema.column(column) {
+            Some(place) => Ok(IndexedPlace {
+                table: source.table,
+                key: source.scope.schema.key(),
+                column: place,
+            }),
+            None => Err(Refusal::UnknownName {
+                name: column.copy()?,
+            }),
+        }
+    }
+
     /// The change that puts a row into the table at a place.
     fn insertion(&self, table: usize, row: Row) -> Result<Change, Refusal>
         requires { table < length self.now.declared.tables }
@@ -256,4 +305,22 @@ pub(crate) fn is_asserted(assertions: &[Assertion], name: &Text) -> bool
     ensures { result ≡ is_asserted name.now assertions.now }
 {
     assertions.iter().any(|assertion| assertion.name == *name)
+}
+
+/// The place of a table, of its key column, and of a column by which its rows are indexed.
+#[derive(Clone, Copy)]
+struct IndexedPlace {
+    table: usize,
+    key: usize,
+    column: usize,
+}
+
+/// Indexes the rows of a table by a column.
+fn index_rows(rows: &mut [Rows], place: IndexedPlace) -> Result<(), AllocError>
+    ensures { rows.new ≡ rows.old }
+{
+    if place.table < rows.len() {
+        rows[place.table] = rows[place.table].with_index(place.key, place.column)?;
+    }
+    Ok(())
 }

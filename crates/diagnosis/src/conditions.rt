@@ -1,6 +1,6 @@
 //! What is wrong with a condition: a name, its shape, its types or its width.
 
-use crate::contexts::Context;
+use crate::contexts::{Context, Viewpoint};
 use crate::names::diagnose_unknown;
 use crate::parts::{Part, parts_of_condition};
 use crate::rules::{push_form, wrong};
@@ -24,15 +24,14 @@ pub struct Site<'a> {
     pub scopes: &'a [Scope<'a>],
 }
 
-/// Says what is wrong with a condition that was refused so, if that is found in it.
+/// Says what is wrong with a condition, if that is found in it.
 pub fn diagnose_condition<'a>(
     alloc: Global,
     context: Context<'a>,
     site: Site<'a>,
-    refusal: &Refusal,
     diagnosis: &mut Diagnosis,
 ) -> Result<bool, AllocError> {
-    match refusal {
+    match context.refusal {
         Refusal::UnknownName { name } => diagnose_names(alloc, context, site, name, diagnosis),
         Refusal::OutsideClass => diagnose_class(alloc, context, site, diagnosis),
         Refusal::TypeMismatch => diagnose_mismatch(alloc, context, site, diagnosis),
@@ -49,7 +48,11 @@ fn diagnose_names<'a>(
     diagnosis: &mut Diagnosis,
 ) -> Result<bool, AllocError> {
     let parts = parts_of_condition(alloc, site.condition, site.at)?;
-    diagnose_unknown(alloc, context, name, &parts, site.scopes, diagnosis)
+    let here = Viewpoint {
+        context,
+        scopes: site.scopes,
+    };
+    diagnose_unknown(alloc, here, name, &parts, diagnosis)
 }
 
 fn diagnose_class<'a>(
@@ -225,11 +228,8 @@ fn push_bounded(
 }
 
 /// What is said of a refusal where nothing more is known.
-pub fn diagnose_whole(
-    context: Context,
-    refusal: &Refusal,
-    diagnosis: &mut Diagnosis,
-) -> Result<(), AllocError> {
+pub fn diagnose_whole(context: Context, diagnosis: &mut Diagnosis) -> Result<(), AllocError> {
+    let refusal = context.refusal;
     diagnosis.place(number_of(refusal), At::Definition(context.piece.whole()));
     write!(diagnosis.what, "{refusal}")
 }

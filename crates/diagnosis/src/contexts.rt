@@ -2,15 +2,18 @@
 
 use crate::leaves::Range;
 use faults::{At, Piece, Span, push_printable};
+use form_check::{Scope, exposed_name};
 use std::alloc::AllocError;
+use syntax::Query;
 use table::Catalog;
-use value::Text;
+use value::{Refusal, Text};
 
-/// A definition or a line of a script, and the tables that there are where it stands.
+/// A definition or a line of a script, the tables that there are where it stands, and why it was refused.
 #[derive(Clone, Copy)]
 pub struct Context<'a> {
     pub piece: &'a Piece<'a>,
     pub catalog: &'a Catalog,
+    pub refusal: &'a Refusal,
 }
 
 impl<'a> Context<'a> {
@@ -46,4 +49,19 @@ impl<'a> Context<'a> {
             _ => At::Definition(self.piece.whole()),
         }
     }
+}
+
+/// A part of a definition or a line, and the tables that it is seen from, the innermost last.
+#[derive(Clone, Copy)]
+pub struct Viewpoint<'a> {
+    pub context: Context<'a>,
+    pub scopes: &'a [Scope<'a>],
+}
+
+/// The table of a query, if there is one.
+pub fn scope_of<'a>(catalog: &'a Catalog, query: &'a Query) -> Option<Scope<'a>> {
+    Some(Scope {
+        exposed_name: exposed_name(&query.correlation_name, &query.table),
+        schema: catalog.get(&query.table)?,
+    })
 }

@@ -1,12 +1,15 @@
 //! What is wrong with the first definition that was refused.
 
 use crate::conditions::{Site, diagnose_condition, diagnose_whole};
-use crate::contexts::Context;
+use crate::contexts::{Context, Viewpoint};
 use crate::inserts::diagnose_insert;
+use crate::names::{diagnose_column_name, diagnose_table_name};
 use crate::refused::first_refused;
 use crate::rules::FORMS;
 use faults::{At, Diagnosis, Piece, place_of};
+use form_check::Scope;
 use std::alloc::{AllocError, Global};
+use std::slice;
 use syntax::{ColumnDefinition, Condition, Definition};
 use table::{Catalog, Row};
 use token::Kind;
@@ -27,27 +30,44 @@ pub fn diagnose_definitions(
     diagnosis: &mut Diagnosis,
 ) -> Result<(), AllocError> {
     let (place, before) = first_refused(alloc, text.definitions, refusal)?;
-    diagnose_at(alloc, text, place, before.catalog(), refusal, diagnosis)
+    let refused = RefusedDefinition {
+        text,
+        place,
+        refusal,
+    };
+    diagnose_refused(alloc, refused, before.catalog(), diagnosis)
 }
 
-/// Says what is wrong with the definition at a place, before which there are these tables.
-fn diagnose_at(
-    alloc: Global,
-    text: DefinitionsText,
+/// The definition at a place of a text, and why it was refused.
+#[derive(Clone, Copy)]
+struct RefusedDefinition<'a> {
+    text: DefinitionsText<'a>,
     place: usize,
+    refusal: &'a Refusal,
+}
+
+/// Says what is wrong with a definition before which there are these tables.
+fn diagnose_refused(
+    alloc: Global,
+    refused: RefusedDefinition,
     catalog: &Catalog,
-    refusal: &Refusal,
     diagnosis: &mut Diagnosis,
 ) -> Result<(), AllocError> {
+    let RefusedDefinition {
+        text,
+        place,
+        refusal,
+    } = refused;
     let piece = Piece::at(alloc, text.bytes, place)?;
     let context = Context {
         piece: &piece,
         catalog,
+        refusal,
     };
     let Some(definition) = text.definitions.get(place) else {
-        return diagnose_whole(context, refusal, diagnosis);
+        return diagnose_whole(context, diagnosis);
     };
-    diagnose_definition(alloc, context, definition, refusal, diagnosis)?;
+    diagnose_definition(alloc, context, definition, diagnosis)?;
     match refusal {
         Refusal::UnknownName { name } => {
             push_created_below(alloc, text, place, name, &mut diagnosis.advice)
@@ -91,21 +111,75 @@ fn diagnose_definition(
     alloc: Global,
     context: Context,
     definition: &Definition,
-    refusal: &Refusal,
     diagnosis: &mut Diagnosis,
 ) -> Result<(), AllocError> {
     match definition {
         Definition::Table { name, columns } => {
-            diagnose_table(context, name, columns.as_slice(), refusal, diagnosis)
+            diagnose_table(context, name, columns.as_slice(), diagnosis)
         }
         Definition::Assertion {
             name,
             condition,
             ..
-        } => diagnose_assertion(alloc, context, name, condition, refusal, diagnosis),
-        Definition::Insert(insert) => {
-            diagnose_insert(alloc, context, insert, 0, refusal, diagnosis)
+        } => diagnose_assertion(alloc, context, name, condition, diagnosis),
+        Definition::Insert(insert) => diagnose_insert(alloc, context, insert, 0, diagnosis),
+        Definition::Index {
+            name,
+            table,
+            column,
+        } => {
+            let index = NewIndex {
+                name,
+                table,
+                column,
+            };
+            index.diagnose(alloc, context, diagnosis)
         }
+    }
+}
+
+/// The names of a CREATE INDEX, of which INDEX itself is the first in its text.
+#[derive(Clone, Copy)]
+struct NewIndex<'a> {
+    name: &'a Text,
+    table: &'a Text,
+    column: &'a Text,
+}
+
+impl<'a> NewIndex<'a> {
+    /// Says what is wrong with it.
+    fn diagnose(
+        &self,
+        alloc: Global,
+        context: Context<'a>,
+        diagnosis: &mut Diagnosis,
+    ) -> Result<(), AllocError> {
+        match context.refusal {
+            Refusal::NameTaken { .. } => name_taken(context, "an index", self.name, 1, diagnosis),
+            Refusal::UnknownName { .. } => self.diagnose_unknown(alloc, context, diagnosis),
+            _ => diagnose_whole(context, diagnosis),
+        }
+    }
+
+    /// Says which of its table and its column there is not.
+    fn diagnose_unknown(
+        &self,
+        alloc: Global,
+        context: Context<'a>,
+        diagnosis: &mut Diagnosis,
+    ) -> Result<(), AllocError> {
+        let Some(schema) = context.catalog.get(self.table) else {
+            return diagnose_table_name(alloc, context, self.table, 2, diagnosis);
+        };
+        let scope = Scope {
+            exposed_name: self.table,
+            schema,
+        };
+        let here = Viewpoint {
+            context,
+            scopes: slice::from_ref(&scope),
+        };
+        diagnose_column_name(alloc, here, self.column, 3, diagnosis)
     }
 }
 
@@ -114,13 +188,12 @@ fn diagnose_assertion(
     context: Context,
     name: &Text,
     condition: &Condition,
-    refusal: &Refusal,
     diagnosis: &mut Diagnosis,
 ) -> Result<(), AllocError> {
-    match refusal {
-        Refusal::NameTaken { .. } => name_taken(context, "an assertion", name, diagnosis),
+    match context.refusal {
+        Refusal::NameTaken { .. } => name_taken(context, "an assertion", name, 0, diagnosis),
         Refusal::AttributeClash { .. } => attributes_at_odds(context, diagnosis),
-        _ => diagnose_rule(alloc, context, condition, refusal, diagnosis),
+        _ => diagnose_rule(alloc, context, condition, diagnosis),
     }
 }
 
@@ -129,7 +202,6 @@ fn diagnose_rule(
     alloc: Global,
     context: Context,
     condition: &Condition,
-    refusal: &Refusal,
     diagnosis: &mut Diagnosis,
 ) -> Result<(), AllocError> {
     let site = Site {
@@ -137,27 +209,31 @@ fn diagnose_rule(
         at: 1,
         scopes: &[],
     };
-    if diagnose_condition(alloc, context, site, refusal, diagnosis)? {
+    if diagnose_condition(alloc, context, site, diagnosis)? {
         return Ok(());
     }
-    match refusal {
+    match context.refusal {
         Refusal::OutsideClass => {
             diagnosis.place(20, At::Definition(context.piece.whole()));
             diagnosis.say("this is none of the forms of rules")?;
             diagnosis.advise(FORMS)
         }
-        _ => diagnose_whole(context, refusal, diagnosis),
+        _ => diagnose_whole(context, diagnosis),
     }
 }
 
-/// A name that something has.
+/// A name that something has. It stands behind so many others in the text of its definition.
 fn name_taken(
     context: Context,
     whose: &str,
     name: &Text,
+    place: usize,
     diagnosis: &mut Diagnosis,
 ) -> Result<(), AllocError> {
-    diagnosis.place(4, context.name_at(context.piece.token(Kind::Name, 0), name));
+    diagnosis.place(
+        4,
+        context.name_at(context.piece.token(Kind::Name, place), name),
+    );
     write!(diagnosis.what, "{whose} has the name {name} already")?;
     diagnosis.advise("Take another name, or leave one of the two definitions out.")
 }
@@ -167,16 +243,15 @@ fn diagnose_table(
     context: Context,
     name: &Text,
     columns: &[ColumnDefinition],
-    refusal: &Refusal,
     diagnosis: &mut Diagnosis,
 ) -> Result<(), AllocError> {
-    match refusal {
+    match context.refusal {
         Refusal::NameTaken { .. } if context.catalog.get(name).is_some() => {
-            name_taken(context, "a table", name, diagnosis)
+            name_taken(context, "a table", name, 0, diagnosis)
         }
         Refusal::NameTaken { name } => column_twice(context, columns, name, diagnosis),
         Refusal::OutsideClass => diagnose_key(context, name, columns, diagnosis),
-        _ => diagnose_whole(context, refusal, diagnosis),
+        _ => diagnose_whole(context, diagnosis),
     }
 }
 
@@ -246,18 +321,24 @@ pub struct BadRow<'a> {
     pub row: &'a Row,
 }
 
-/// Says that an assertion is false on the rows that are loaded, at this root; by rows with the row that is bad.
+/// An assertion that is false at a root; by rows with the row that is bad.
+#[derive(Clone, Copy)]
+pub struct FalseAssertion<'a> {
+    pub name: &'a Text,
+    pub root: &'a Root,
+    pub row: Option<BadRow<'a>>,
+}
+
+/// Says that an assertion is false on the rows that are loaded.
 pub fn diagnose_false(
     alloc: Global,
     text: DefinitionsText,
-    name: &Text,
-    root: &Root,
-    row: Option<BadRow>,
+    found: FalseAssertion,
     diagnosis: &mut Diagnosis,
 ) -> Result<(), AllocError> {
-    diagnosis.place(21, assertion_at(alloc, text, name)?);
-    push_false(name, root, &mut diagnosis.what)?;
-    if let Some(row) = row {
+    diagnosis.place(21, assertion_at(alloc, text, found.name)?);
+    push_false(found.name, found.root, &mut diagnosis.what)?;
+    if let Some(row) = found.row {
         push_row(row, &mut diagnosis.advice)?;
     }
     diagnosis.advise(

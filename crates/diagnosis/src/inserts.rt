@@ -2,8 +2,8 @@
 
 use crate::answers::refusal_in;
 use crate::conditions::{diagnose_whole, type_name};
-use crate::contexts::Context;
-use crate::names::{diagnose_name, unknown_column, unknown_table};
+use crate::contexts::{Context, Viewpoint};
+use crate::names::{diagnose_column_name, diagnose_table_name};
 use assertcheck::{DataType, check_insert};
 use faults::{At, Diagnosis, push_names};
 use form_check::Scope;
@@ -27,19 +27,17 @@ pub fn insert_refusal(
     }
 }
 
-/// Says what is wrong with an INSERT that was refused so. `names` is how many names stand before that of its table.
+/// Says what is wrong with an INSERT. `names` is how many names stand before that of its table.
 pub fn diagnose_insert(
     alloc: Global,
     context: Context,
     insert: &Insert,
     names: usize,
-    refusal: &Refusal,
     diagnosis: &mut Diagnosis,
 ) -> Result<(), AllocError> {
     let Some(schema) = context.catalog.get(&insert.table) else {
         // (the place among the leaves is that among the names: no other leaf stands before it)
-        let unknown = unknown_table(alloc, context.catalog, &insert.table, names)?;
-        return diagnose_name(alloc, context, &insert.table, &unknown, &[], diagnosis);
+        return diagnose_table_name(alloc, context, &insert.table, names, diagnosis);
     };
     let known = KnownInsert {
         context,
@@ -47,7 +45,7 @@ pub fn diagnose_insert(
         schema,
         names,
     };
-    known.diagnose(alloc, refusal, diagnosis)
+    known.diagnose(alloc, diagnosis)
 }
 
 /// An INSERT into a table that there is.
@@ -60,20 +58,15 @@ struct KnownInsert<'a> {
 }
 
 impl<'a> KnownInsert<'a> {
-    fn diagnose(
-        &self,
-        alloc: Global,
-        refusal: &Refusal,
-        diagnosis: &mut Diagnosis,
-    ) -> Result<(), AllocError> {
-        match refusal {
+    fn diagnose(&self, alloc: Global, diagnosis: &mut Diagnosis) -> Result<(), AllocError> {
+        match self.context.refusal {
             Refusal::UnknownName { name } => self.unknown(alloc, name, diagnosis),
             Refusal::NameTaken { name } => self.listed_twice(name, diagnosis),
             Refusal::TypeMismatch => self.mismatch(alloc, diagnosis),
             Refusal::NullNotAllowed { column } => self.null(column, diagnosis),
             Refusal::OutOfRange { column, excess } => self.excess(column, *excess, diagnosis),
             Refusal::DuplicateKey { key, .. } => self.duplicate(key, diagnosis),
-            _ => diagnose_whole(self.context, refusal, diagnosis),
+            _ => diagnose_whole(self.context, diagnosis),
         }
     }
 
@@ -102,8 +95,11 @@ impl<'a> KnownInsert<'a> {
             exposed_name: &self.insert.table,
             schema: self.schema,
         }];
-        let unknown = unknown_column(alloc, &scopes, name, leaf)?;
-        diagnose_name(alloc, self.context, name, &unknown, &scopes, diagnosis)
+        let here = Viewpoint {
+            context: self.context,
+            scopes: &scopes,
+        };
+        diagnose_column_name(alloc, here, name, leaf, diagnosis)
     }
 
     /// A column that is listed twice.
@@ -136,7 +132,7 @@ impl<'a> KnownInsert<'a> {
         }
         match self.first_mistyped() {
             Some(value) => self.type_fault(value, diagnosis),
-            None => diagnose_whole(self.context, &Refusal::TypeMismatch, diagnosis),
+            None => diagnose_whole(self.context, diagnosis),
         }
     }
 

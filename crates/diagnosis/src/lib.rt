@@ -30,5 +30,7 @@ mod statements;
 mod types;
 mod widths;
 
-pub use definitions_at_fault::{BadRow, DefinitionsText, diagnose_definitions, diagnose_false};
-pub use statements::diagnose_statement;
+pub use definitions_at_fault::{
+    BadRow, DefinitionsText, FalseAssertion, diagnose_definitions, diagnose_false,
+};
+pub use statements::{ScriptStatement, diagnose_statement};

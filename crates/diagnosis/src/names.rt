@@ -2,11 +2,11 @@
 //!
 //! The order is that of `form_check`: of a query its table comes first, then its list, WHERE, GROUP BY and HAVING.
 
-use crate::contexts::Context;
+use crate::contexts::{Context, Viewpoint, scope_of};
 use crate::leaves::{clauses_of, of_column};
 use crate::parts::{Node, Part};
 use faults::{Diagnosis, Nearest, push_names};
-use form_check::{Scope, exposed_name};
+use form_check::Scope;
 use std::alloc::{AllocError, Global};
 use std::slice;
 use syntax::ColumnName;
@@ -27,7 +27,7 @@ enum Sought<'a> {
 
 /// A name that stands for nothing.
 #[derive(Clone, Copy)]
-pub struct Unknown<'a> {
+struct Unknown<'a> {
     /// The place of its leaf.
     leaf: usize,
     sought: Sought<'a>,
@@ -35,24 +35,55 @@ pub struct Unknown<'a> {
     nearest: Nearest<'a>,
 }
 
-/// Says which of the names of some parts stands for nothing, if one is found that does: the name that was refused. The
-/// parts are seen from these tables, the innermost last.
+/// Says which of the names of some parts stands for nothing, if one is found that does: the name that was refused.
 pub fn diagnose_unknown<'a>(
     alloc: Global,
-    context: Context<'a>,
+    around: Viewpoint<'a>,
     name: &Text,
     parts: &[Part<'a>],
-    outer: &[Scope<'a>],
     diagnosis: &mut Diagnosis,
 ) -> Result<bool, AllocError> {
-    let mut scopes = Vec::from_slice(alloc, outer)?;
+    let context = around.context;
+    let mut scopes = Vec::from_slice(alloc, around.scopes)?;
     match first_unknown(alloc, context.catalog, parts, &mut scopes)? {
         Some(unknown) => {
-            diagnose_name(alloc, context, name, &unknown, &scopes, diagnosis)?;
+            let here = Viewpoint {
+                context,
+                scopes: &scopes,
+            };
+            diagnose_name(alloc, here, name, &unknown, diagnosis)?;
             Ok(true)
         }
         None => Ok(false),
     }
+}
+
+/// Says that a table's name, at a leaf, stands for nothing.
+pub fn diagnose_table_name(
+    alloc: Global,
+    context: Context,
+    name: &Text,
+    leaf: usize,
+    diagnosis: &mut Diagnosis,
+) -> Result<(), AllocError> {
+    let unknown = unknown_table(alloc, context.catalog, name, leaf)?;
+    let here = Viewpoint {
+        context,
+        scopes: &[],
+    };
+    diagnose_name(alloc, here, name, &unknown, diagnosis)
+}
+
+/// Says that a name at a leaf is no column of the tables around it.
+pub fn diagnose_column_name(
+    alloc: Global,
+    here: Viewpoint,
+    name: &Text,
+    leaf: usize,
+    diagnosis: &mut Diagnosis,
+) -> Result<(), AllocError> {
+    let unknown = unknown_column(alloc, here.scopes, name, leaf)?;
+    diagnose_name(alloc, here, name, &unknown, diagnosis)
 }
 
 /// The first unknown name of the parts of a tree, which is seen from these tables, the innermost last. The tables
@@ -90,14 +121,11 @@ fn enter<'a>(
     let Some((query, at)) = part.query() else {
         return Ok(None);
     };
-    let Some(schema) = catalog.get(&query.table) else {
+    let Some(scope) = scope_of(catalog, query) else {
         let leaf = clauses_of(query, at).table;
         return Ok(Some(unknown_table(alloc, catalog, &query.table, leaf)?));
     };
-    scopes.push(Scope {
-        exposed_name: exposed_name(&query.correlation_name, &query.table),
-        schema,
-    })?;
+    scopes.push(scope)?;
     Ok(None)
 }
 
@@ -135,7 +163,7 @@ fn scope_named<'a>(scopes: &[Scope<'a>], column: &ColumnName) -> Option<Scope<'a
 }
 
 /// A table that there is not.
-pub fn unknown_table<'a>(
+fn unknown_table<'a>(
     alloc: Global,
     catalog: &'a Catalog,
     name: &'a Text,
@@ -155,7 +183,7 @@ pub fn unknown_table<'a>(
 }
 
 /// A column that none of the tables around has.
-pub fn unknown_column<'a>(
+fn unknown_column<'a>(
     alloc: Global,
     scopes: &[Scope<'a>],
     name: &'a Text,
@@ -217,15 +245,15 @@ fn unknown_qualifier<'a>(
     })
 }
 
-/// Says that a name stands for nothing, and what may be meant. `scopes` are the tables around it.
-pub fn diagnose_name(
+/// Says that a name stands for nothing, and what may be meant.
+fn diagnose_name(
     alloc: Global,
-    context: Context,
+    here: Viewpoint,
     name: &Text,
     unknown: &Unknown,
-    scopes: &[Scope],
     diagnosis: &mut Diagnosis,
 ) -> Result<(), AllocError> {
+    let Viewpoint { context, scopes } = here;
     diagnosis.place(3, context.name_at(context.piece.leaf(unknown.leaf), name));
     push_missing(name, unknown.sought, &mut diagnosis.what)?;
     match (unknown.nearest.found(), unknown.sought) {
@@ -248,8 +276,8 @@ fn push_missing(name: &Text, sought: Sought, what: &mut String) -> Result<(), Al
     }
 }
 
-/// At most so many names of tables are listed.
-const MOST_NAMES: usize = 8;
+/// At most so many names are listed.
+pub const MOST_NAMES: usize = 8;
 
 /// Which tables there are.
 fn push_tables(alloc: Global, catalog: &Catalog, advice: &mut String) -> Result<(), AllocError> {

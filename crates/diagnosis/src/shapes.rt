@@ -4,10 +4,11 @@
 //! looked for is each rule that the shapes have; so the part that is found breaks the rule that is told, and a
 //! condition in which none is found is shown whole.
 
-use crate::leaves::{Range, clauses_of, of_column, of_condition};
+use crate::contexts::scope_of;
+use crate::leaves::{Clauses, Range, clauses_of, of_column, of_condition};
 use crate::parts::{Node, Part, parts_of_condition};
 use crate::rules::Rule;
-use form_check::{Scope, exposed_name};
+use form_check::Scope;
 use std::alloc::{AllocError, Global};
 use std::slice;
 use syntax::{ColumnName, Condition, Expression, Query, SelectList};
@@ -72,12 +73,25 @@ pub fn in_parts<'a>(parts: &[Part]) -> Option<Outside<'a>> {
     None
 }
 
-/// The table of a query.
-fn scope_of<'a>(catalog: &'a Catalog, query: &'a Query) -> Option<Scope<'a>> {
-    Some(Scope {
-        exposed_name: exposed_name(&query.correlation_name, &query.table),
-        schema: catalog.get(&query.table)?,
-    })
+/// A query over a table that there is, and where its leaves begin.
+#[derive(Clone, Copy)]
+struct KnownQuery<'a> {
+    query: &'a Query,
+    at: usize,
+    scope: Scope<'a>,
+}
+
+impl<'a> KnownQuery<'a> {
+    /// A query whose leaves begin here, if there is its table.
+    fn of(catalog: &'a Catalog, query: &'a Query, at: usize) -> Option<KnownQuery<'a>> {
+        let scope = scope_of(catalog, query)?;
+        Some(KnownQuery { query, at, scope })
+    }
+
+    /// Where the leaves of its clauses begin.
+    fn clauses(&self) -> Clauses {
+        clauses_of(self.query, self.at)
+    }
 }
 
 /// NOT EXISTS of a query whose leaves begin here.
@@ -87,13 +101,13 @@ fn not_exists<'a>(
     query: &'a Query,
     at: usize,
 ) -> Result<Option<Outside<'a>>, AllocError> {
-    let clauses = clauses_of(query, at);
-    let Some(scope) = scope_of(catalog, query) else {
+    let Some(known) = KnownQuery::of(catalog, query, at) else {
         return Ok(None);
     };
+    let clauses = known.clauses();
     match (&query.group, &query.having) {
-        (None, None) => by_row(alloc, catalog, scope, query, at),
-        (Some(group), Some(having)) => by_group(alloc, scope, query, group, having, at),
+        (None, None) => by_row(alloc, catalog, known),
+        (Some(group), Some(having)) => by_group(alloc, known, group, having),
         (Some(group), None) => {
             let range = Range::new(clauses.group, of_column(group));
             Ok(fault_of_rule(Rule::GroupWithoutHaving, range))
@@ -105,21 +119,19 @@ fn not_exists<'a>(
     }
 }
 
-/// A rule by groups, whose query has its leaves from here on.
+/// A rule by groups of this query.
 fn by_group<'a>(
     alloc: Global,
-    scope: Scope,
-    query: &Query,
+    known: KnownQuery,
     group: &ColumnName,
     having: &Condition,
-    at: usize,
 ) -> Result<Option<Outside<'a>>, AllocError> {
-    let clauses = clauses_of(query, at);
+    let (scope, clauses) = (known.scope, known.clauses());
     let group = scope.own(group);
-    if let Some(found) = listed_outside(scope, query, group, at) {
+    if let Some(found) = listed_outside(known, group) {
         return Ok(Some(found));
     }
-    if let Some(keeps) = &query.keeps {
+    if let Some(keeps) = &known.query.keeps {
         if let Some(found) = in_where(alloc, keeps, clauses.keeps)? {
             return Ok(Some(found));
         }
@@ -141,19 +153,14 @@ fn by_group<'a>(
 }
 
 /// What a query under EXISTS lists, if it may not: in a rule by groups another column than that of the groups.
-fn listed_outside<'a>(
-    scope: Scope,
-    query: &Query,
-    group: Option<usize>,
-    at: usize,
-) -> Option<Outside<'a>> {
-    let SelectList::One(listed) = &query.select_list else {
+fn listed_outside<'a>(known: KnownQuery, group: Option<usize>) -> Option<Outside<'a>> {
+    let SelectList::One(listed) = &known.query.select_list else {
         return None;
     };
     let may_be_listed = match listed {
         Expression::Number(_) | Expression::Text(_) => true,
         Expression::Column(column) => {
-            let place = scope.own(column);
+            let place = known.scope.own(column);
             place.is_some() && (group.is_none() || place == group)
         }
         _ => false,
@@ -161,31 +168,26 @@ fn listed_outside<'a>(
     if may_be_listed {
         None
     } else {
-        fault_of_rule(
-            Rule::Listed,
-            Range::of(listed, clauses_of(query, at).listed),
-        )
+        fault_of_rule(Rule::Listed, Range::of(listed, known.clauses().listed))
     }
 }
 
-/// A rule by rows, whose query has its leaves from here on.
+/// A rule by rows of this query.
 fn by_row<'a>(
     alloc: Global,
     catalog: &'a Catalog,
-    scope: Scope<'a>,
-    query: &'a Query,
-    at: usize,
+    known: KnownQuery<'a>,
 ) -> Result<Option<Outside<'a>>, AllocError> {
-    if let Some(found) = listed_outside(scope, query, None, at) {
+    if let Some(found) = listed_outside(known, None) {
         return Ok(Some(found));
     }
-    let Some(keeps) = &query.keeps else {
+    let Some(keeps) = &known.query.keeps else {
         return Ok(None);
     };
-    let parts = parts_of_condition(alloc, keeps, clauses_of(query, at).keeps)?;
+    let parts = parts_of_condition(alloc, keeps, known.clauses().keeps)?;
     for part in &parts {
         if part.depth == 0 {
-            if let Some(found) = in_row(alloc, catalog, scope, part)? {
+            if let Some(found) = in_row(alloc, catalog, known.scope, part)? {
                 return Ok(Some(found));
             }
         }
@@ -206,16 +208,16 @@ fn in_row<'a>(
     let Some((query, at)) = part.query() else {
         return Ok(None);
     };
-    let Some(inner) = scope_of(catalog, query) else {
+    let Some(inner) = KnownQuery::of(catalog, query, at) else {
         return Ok(None);
     };
     let listed = match part.node {
-        Node::Exists(_) => listed_outside(inner, query, None, at),
+        Node::Exists(_) => listed_outside(inner, None),
         _ => value_of_row(query, at),
     };
     match listed {
         Some(found) => Ok(Some(found)),
-        None => link_fault(alloc, scope, inner, query, at),
+        None => link_fault(alloc, scope, inner),
     }
 }
 
@@ -255,27 +257,25 @@ struct Conjunct<'a> {
     is_link: bool,
 }
 
-/// The parts that AND joins at the top of the WHERE of a query, whose leaves begin here.
+/// The parts that AND joins at the top of the WHERE of a query.
 fn conjuncts_of<'a>(
     alloc: Global,
     outer: Scope,
-    inner: Scope,
-    query: &'a Query,
-    at: usize,
+    inner: KnownQuery<'a>,
 ) -> Result<Vec<Conjunct<'a>>, AllocError> {
     let mut found = Vec::new(alloc);
-    let conditions = match &query.keeps {
+    let conditions = match &inner.query.keeps {
         None => &[],
         Some(Condition::And(parts)) => parts.as_slice(),
         Some(whole) => slice::from_ref(whole),
     };
-    let mut at = clauses_of(query, at).keeps;
+    let mut at = inner.clauses().keeps;
     for condition in conditions {
         let range = Range::new(at, of_condition(condition));
         found.push(Conjunct {
             condition,
             range,
-            is_link: is_link(outer, inner, condition),
+            is_link: is_link(outer, inner.scope, condition),
         })?;
         at = range.to;
     }
@@ -303,22 +303,20 @@ fn joins(outer: Scope, inner: Scope, from: &ColumnName, to: &ColumnName) -> bool
 fn link_fault<'a>(
     alloc: Global,
     outer: Scope<'a>,
-    inner: Scope<'a>,
-    query: &'a Query,
-    at: usize,
+    inner: KnownQuery<'a>,
 ) -> Result<Option<Outside<'a>>, AllocError> {
-    if let Some(found) = group_fault(query, at) {
+    if let Some(found) = group_fault(inner.query, inner.at) {
         return Ok(Some(found));
     }
-    let conjuncts = conjuncts_of(alloc, outer, inner, query, at)?;
+    let conjuncts = conjuncts_of(alloc, outer, inner)?;
     for conjunct in &conjuncts {
         if let Some(found) = in_where(alloc, conjunct.condition, conjunct.range.from)? {
             return Ok(Some(found));
         }
     }
     let whole = Range {
-        from: at,
-        to: clauses_of(query, at).end,
+        from: inner.at,
+        to: inner.clauses().end,
     };
     if conjuncts.iter().any(|part| part.is_link) {
         return Ok(None);

@@ -6,10 +6,10 @@ use crate::conditions::{
     Site, diagnose_condition, diagnose_shape, diagnose_types, diagnose_whole, diagnose_width,
     type_name,
 };
-use crate::contexts::Context;
+use crate::contexts::{Context, Viewpoint};
 use crate::inserts::{diagnose_insert, insert_refusal, push_value_of_type};
 use crate::leaves::{Range, of_expression};
-use crate::names::{diagnose_name, diagnose_unknown, unknown_column, unknown_table};
+use crate::names::{MOST_NAMES, diagnose_column_name, diagnose_table_name, diagnose_unknown};
 use crate::parts::parts_of_expression;
 use crate::shapes::in_parts;
 use crate::types::of_type;
@@ -24,24 +24,25 @@ use syntax::{Assignment, Condition, Expression, Statement, UpdateSource, Which a
 use table::{Catalog, Column};
 use value::{Refusal, Text};
 
-/// Says why a statement, at a place among the lines of a script, is refused in every transaction, if it is.
+/// A statement of a script, by the script's text and its place among the lines.
+#[derive(Clone, Copy)]
+pub struct ScriptStatement<'a> {
+    pub bytes: &'a [u8],
+    pub place: usize,
+    pub statement: &'a Statement,
+}
+
+/// Says why a statement is refused in every transaction, if it is.
 pub fn diagnose_statement(
     alloc: Global,
-    bytes: &[u8],
-    place: usize,
-    statement: &Statement,
+    line: ScriptStatement,
     view: &View,
     diagnosis: &mut Diagnosis,
 ) -> Result<bool, AllocError> {
-    let Some(refusal) = refusal_of(alloc, view, statement)? else {
-        return Ok(false);
-    };
-    let refused = RefusedStatement {
-        statement,
-        view,
-        refusal: &refusal,
-    };
-    diagnose_line(alloc, bytes, place, refused, diagnosis)
+    match refusal_of(alloc, view, line.statement)? {
+        Some(refusal) => diagnose_line(alloc, line, view, &refusal, diagnosis),
+        None => Ok(false),
+    }
 }
 
 /// The refusal that a statement gets whatever the rows are.
@@ -99,38 +100,32 @@ fn refusal_to_set(view: &View, assertions: &Listed) -> Result<Option<Refusal>, A
     Ok(None)
 }
 
-/// A statement that is refused, and the tables and assertions that there are.
-#[derive(Clone, Copy)]
-struct RefusedStatement<'a> {
-    statement: &'a Statement,
-    view: &'a View,
-    refusal: &'a Refusal,
-}
-
-/// Says what is wrong with the statement of a line. That is always found.
+/// Says what is wrong with the statement of a line that was refused so. That is always found.
 fn diagnose_line(
     alloc: Global,
-    bytes: &[u8],
-    place: usize,
-    refused: RefusedStatement,
+    line: ScriptStatement,
+    view: &View,
+    refusal: &Refusal,
     diagnosis: &mut Diagnosis,
 ) -> Result<bool, AllocError> {
-    let piece = Piece::at(alloc, bytes, place)?;
+    let piece = Piece::at(alloc, line.bytes, line.place)?;
     let context = Context {
         piece: &piece,
-        catalog: refused.view.catalog(),
+        catalog: view.catalog(),
+        refusal,
     };
-    diagnose(alloc, context, refused, diagnosis)
+    diagnose(alloc, context, view, line.statement, diagnosis)
 }
 
 fn diagnose(
     alloc: Global,
     context: Context,
-    refused: RefusedStatement,
+    view: &View,
+    statement: &Statement,
     diagnosis: &mut Diagnosis,
 ) -> Result<bool, AllocError> {
-    if !diagnose_parts(alloc, context, refused, diagnosis)? {
-        diagnose_whole(context, refused.refusal, diagnosis)?;
+    if !diagnose_parts(alloc, context, view, statement, diagnosis)? {
+        diagnose_whole(context, diagnosis)?;
     }
     Ok(true)
 }
@@ -139,22 +134,22 @@ fn diagnose(
 fn diagnose_parts(
     alloc: Global,
     context: Context,
-    refused: RefusedStatement,
+    view: &View,
+    statement: &Statement,
     diagnosis: &mut Diagnosis,
 ) -> Result<bool, AllocError> {
-    let refusal = refused.refusal;
-    match refused.statement {
+    match statement {
         Statement::Insert(insert) => {
-            diagnose_insert(alloc, context, insert, 1, refusal, diagnosis)?;
+            diagnose_insert(alloc, context, insert, 1, diagnosis)?;
             Ok(true)
         }
         Statement::Update { table, sets, keeps } => {
             let rows = Rows::new(table, 1, keeps, behind(sets.as_slice()));
-            diagnose_update(alloc, context, sets.as_slice(), rows, refusal, diagnosis)
+            diagnose_update(alloc, context, sets.as_slice(), rows, diagnosis)
         }
         Statement::Delete { table, keeps } => {
             let rows = Rows::new(table, 1, keeps, 2);
-            diagnose_rows(alloc, context, rows, refusal, diagnosis)
+            diagnose_rows(alloc, context, rows, diagnosis)
         }
         Statement::Select {
             columns,
@@ -163,10 +158,10 @@ fn diagnose_parts(
         } => {
             let table_at = listed_count(columns).saturating_add(2);
             let rows = Rows::new(table, table_at, keeps, table_at.saturating_add(1));
-            diagnose_select(alloc, context, columns, rows, refusal, diagnosis)
+            diagnose_select(alloc, context, columns, rows, diagnosis)
         }
         Statement::SetConstraints { .. } | Statement::Verdict(_) => {
-            diagnose_asserted(alloc, context, refused.view, refusal, diagnosis)
+            diagnose_asserted(alloc, context, view, diagnosis)
         }
     }
 }
@@ -209,12 +204,10 @@ fn diagnose_rows(
     alloc: Global,
     context: Context,
     rows: Rows,
-    refusal: &Refusal,
     diagnosis: &mut Diagnosis,
 ) -> Result<bool, AllocError> {
     let Some(scope) = rows.scope(context.catalog) else {
-        let unknown = unknown_table(alloc, context.catalog, rows.table, rows.table_at)?;
-        diagnose_name(alloc, context, rows.table, &unknown, &[], diagnosis)?;
+        diagnose_table_name(alloc, context, rows.table, rows.table_at, diagnosis)?;
         return Ok(true);
     };
     match rows.keeps {
@@ -224,7 +217,7 @@ fn diagnose_rows(
                 at: rows.keeps_at,
                 scopes: slice::from_ref(&scope),
             };
-            diagnose_condition(alloc, context, site, refusal, diagnosis)
+            diagnose_condition(alloc, context, site, diagnosis)
         }
         None => Ok(false),
     }
@@ -243,20 +236,21 @@ fn diagnose_select(
     context: Context,
     columns: &Listed,
     rows: Rows,
-    refusal: &Refusal,
     diagnosis: &mut Diagnosis,
 ) -> Result<bool, AllocError> {
     if let (Some(scope), Listed::Names(names), Refusal::UnknownName { name }) = (
         rows.scope(context.catalog),
         columns,
-        refusal,
+        context.refusal,
     ) {
         if let Some(place) = first_unlisted(scope, names.as_slice()) {
-            let at = place.saturating_add(2);
-            return diagnose_column_name(alloc, context, scope, name, at, diagnosis);
+            let scopes = slice::from_ref(&scope);
+            let here = Viewpoint { context, scopes };
+            diagnose_column_name(alloc, here, name, place.saturating_add(2), diagnosis)?;
+            return Ok(true);
         }
     }
-    diagnose_rows(alloc, context, rows, refusal, diagnosis)
+    diagnose_rows(alloc, context, rows, diagnosis)
 }
 
 /// The place of the first of some names that is no column of a table.
@@ -267,21 +261,6 @@ fn first_unlisted(scope: Scope, names: &[Text]) -> Option<usize> {
         }
     }
     None
-}
-
-/// Says that the name at a leaf is no column of a statement's table. That is always found.
-fn diagnose_column_name(
-    alloc: Global,
-    context: Context,
-    scope: Scope,
-    name: &Text,
-    leaf: usize,
-    diagnosis: &mut Diagnosis,
-) -> Result<bool, AllocError> {
-    let scopes = slice::from_ref(&scope);
-    let unknown = unknown_column(alloc, scopes, name, leaf)?;
-    diagnose_name(alloc, context, name, &unknown, scopes, diagnosis)?;
-    Ok(true)
 }
 
 /// An assignment of an UPDATE to this table, and where its leaves begin.
@@ -330,17 +309,16 @@ fn diagnose_update(
     context: Context,
     sets: &[Assignment],
     rows: Rows,
-    refusal: &Refusal,
     diagnosis: &mut Diagnosis,
 ) -> Result<bool, AllocError> {
     let mut assigned = Vec::new(alloc);
     if let Some(scope) = rows.scope(context.catalog) {
         push_assigned(scope, sets, &mut assigned)?;
     }
-    if diagnose_sets(alloc, context, &assigned, refusal, diagnosis)? {
+    if diagnose_sets(alloc, context, &assigned, diagnosis)? {
         return Ok(true);
     }
-    diagnose_rows(alloc, context, rows, refusal, diagnosis)
+    diagnose_rows(alloc, context, rows, diagnosis)
 }
 
 /// Says what is wrong with a column that is assigned, or else with what one is given, if that is found.
@@ -348,16 +326,15 @@ fn diagnose_sets(
     alloc: Global,
     context: Context,
     sets: &[Assigned],
-    refusal: &Refusal,
     diagnosis: &mut Diagnosis,
 ) -> Result<bool, AllocError> {
     for assigned in sets {
-        if diagnose_column(alloc, context, *assigned, refusal, diagnosis)? {
+        if diagnose_column(alloc, context, *assigned, diagnosis)? {
             return Ok(true);
         }
     }
     for assigned in sets {
-        if diagnose_value(alloc, context, *assigned, refusal, diagnosis)? {
+        if diagnose_value(alloc, context, *assigned, diagnosis)? {
             return Ok(true);
         }
     }
@@ -369,7 +346,6 @@ fn diagnose_column(
     alloc: Global,
     context: Context,
     assigned: Assigned,
-    refusal: &Refusal,
     diagnosis: &mut Diagnosis,
 ) -> Result<bool, AllocError> {
     let Assigned {
@@ -378,9 +354,12 @@ fn diagnose_column(
         at,
     } = assigned;
     let column = &assignment.column;
-    match refusal {
+    match context.refusal {
         Refusal::UnknownName { name } if scope.schema.column(column).is_none() => {
-            diagnose_column_name(alloc, context, scope, name, at, diagnosis)
+            let scopes = slice::from_ref(&scope);
+            let here = Viewpoint { context, scopes };
+            diagnose_column_name(alloc, here, name, at, diagnosis)?;
+            Ok(true)
         }
         Refusal::KeyUpdate { column: key } if *key == *column => {
             diagnose_key(context, key, at, diagnosis)
@@ -407,7 +386,6 @@ fn diagnose_value(
     alloc: Global,
     context: Context,
     assigned: Assigned,
-    refusal: &Refusal,
     diagnosis: &mut Diagnosis,
 ) -> Result<bool, AllocError> {
     let UpdateSource::To(expression) = &assigned.assignment.value else {
@@ -418,9 +396,9 @@ fn diagnose_value(
         at: assigned.at.saturating_add(2),
         assigned,
     };
-    match refusal {
+    match context.refusal {
         Refusal::TypeMismatch => diagnose_given_type(alloc, context, given, diagnosis),
-        _ => diagnose_given(alloc, context, given, refusal, diagnosis),
+        _ => diagnose_given(alloc, context, given, diagnosis),
     }
 }
 
@@ -437,14 +415,14 @@ fn diagnose_given(
     alloc: Global,
     context: Context,
     given: Given,
-    refusal: &Refusal,
     diagnosis: &mut Diagnosis,
 ) -> Result<bool, AllocError> {
     let parts = parts_of_expression(alloc, given.expression, given.at)?;
-    match refusal {
+    match context.refusal {
         Refusal::UnknownName { name } => {
             let scopes = slice::from_ref(&given.assigned.scope);
-            diagnose_unknown(alloc, context, name, &parts, scopes, diagnosis)
+            let here = Viewpoint { context, scopes };
+            diagnose_unknown(alloc, here, name, &parts, diagnosis)
         }
         Refusal::OutsideClass => diagnose_shape(context, in_parts(&parts), diagnosis),
         Refusal::TooWide => diagnose_width(alloc, context, &parts, diagnosis),
@@ -500,10 +478,9 @@ fn diagnose_asserted(
     alloc: Global,
     context: Context,
     view: &View,
-    refusal: &Refusal,
     diagnosis: &mut Diagnosis,
 ) -> Result<bool, AllocError> {
-    match refusal {
+    match context.refusal {
         Refusal::UnknownName { name } => {
             diagnosis.place(3, asserted_at(context, name));
             write!(diagnosis.what, "there is no assertion {name}")?;
@@ -520,9 +497,6 @@ fn diagnose_asserted(
     }
     Ok(true)
 }
-
-/// At most so many names of assertions are listed.
-const MOST_NAMES: usize = 8;
 
 /// A line of which assertion may be meant, or which there are.
 fn push_assertions(

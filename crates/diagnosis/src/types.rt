@@ -2,9 +2,10 @@
 //!
 //! What has which type is told by `assertcheck`: numbers and texts. Names and shapes are right when this is asked.
 
+use crate::contexts::scope_of;
 use crate::leaves::{Range, clauses_of, of_condition, of_expression};
 use assertcheck::DataType;
-use form_check::{Scope, exposed_name};
+use form_check::Scope;
 use std::alloc::{AllocError, Global};
 use syntax::{Aggregate, ColumnName, Condition, Expression, Query, SelectList};
 use table::Catalog;
@@ -208,12 +209,8 @@ fn listed_type<'a>(
     at: usize,
 ) -> Result<TypeOrMismatch, AllocError> {
     let clauses = clauses_of(query, at);
-    let Some(schema) = catalog.get(&query.table) else {
+    let Some(inner) = scope_of(catalog, query) else {
         return Ok(Ok(DataType::Number));
-    };
-    let inner = Scope {
-        exposed_name: exposed_name(&query.correlation_name, &query.table),
-        schema,
     };
     let mut scopes = Vec::from_slice(alloc, outer)?;
     scopes.push(inner)?;

@@ -54,7 +54,7 @@ impl<'a> Stop<'a> {
 }
 
 /// What SQL has and the language has not, with what to write.
-const ELSEWHERE: [(&str, &str); 44] = [
+const ELSEWHERE: [(&str, &str); 43] = [
     (
         "ALTER",
         "Tables are not altered: write the columns into CREATE TABLE.",
@@ -111,7 +111,7 @@ const ELSEWHERE: [(&str, &str); 44] = [
     ),
     (
         "INDEX",
-        "Indexes are not declared: what an assertion needs is kept by itself (skewguard check shows it).",
+        "An index is a definition of its own, of one column: CREATE INDEX name ON T (C).",
     ),
     (
         "INNER",
@@ -137,7 +137,6 @@ const ELSEWHERE: [(&str, &str); 44] = [
         "NUMERIC",
         "The types are INTEGER and VARCHAR(n). Count cents in place of euros.",
     ),
-    ("ON", "There is no ON: put the condition into WHERE."),
     (
         "ORDER",
         "There is no ORDER BY. Rows come in the order of their keys.",

@@ -5,7 +5,7 @@ use token::Kind;
 use value::Text;
 
 /// Each kind of token that may stand somewhere, with a text of it.
-pub const WORDS: [(Kind, &str); 69] = [
+pub const WORDS: [(Kind, &str); 70] = [
     (Kind::Name, "X"),
     (Kind::Number, "1"),
     (Kind::Text, "''"),
@@ -58,6 +58,7 @@ pub const WORDS: [(Kind, &str); 69] = [
     (Kind::Min, "MIN"),
     (Kind::Not, "NOT"),
     (Kind::Null, "NULL"),
+    (Kind::On, "ON"),
     (Kind::Only, "ONLY"),
     (Kind::Or, "OR"),
     (Kind::Primary, "PRIMARY"),
@@ -217,6 +218,10 @@ fn push_parts(kinds: &[Kind], parts: &mut Vec<&'static str>) -> Result<(), Alloc
     for (kind, spelling) in &WORDS {
         if kinds.contains(kind) && !said.has(*kind) {
             parts.push(name_of_kind(*kind, spelling))?;
+        }
+        // INDEX is a name to the tokens, and so to the parser that is asked. It stands where these two may.
+        if *kind == Kind::Assertion && kinds.contains(kind) && kinds.contains(&Kind::Table) {
+            parts.push("INDEX")?;
         }
     }
     Ok(())

@@ -1,6 +1,9 @@
 //! A cursor over the tokens of a text.
 
 ghost use Rattle.std.specs.Prelude.{◌≡◌, ◌↔◌, [], IsTrue, map, length};
+ghost use Rattle.std.specs.Str.{bytes_eq};
+ghost use Rattle.token.specs.declared.kinds.Kind.TheVariants as k;
+ghost use Rattle.syntax.specs.Grammar.{name_of};
 ghost use Rattle.syntax.specs.Language.{head, kind_at};
 ghost use Rattle.syntax.specs.Reading as rd;
 ghost use Rattle.syntax.specs.Lexemes.{lexeme, bytes_of, place};
@@ -9,7 +12,7 @@ ghost use Rattle.leaf_parser.specs.Reads.{Reads, IsAt};
 
 use crate::stops::Stop;
 use std::marker::Model;
-use token::{Kind, Token};
+use token::{Kind, Token, is_spelled};
 
 /// A token with its bytes.
 #[derive(Drop)]
@@ -154,6 +157,22 @@ impl<'a> Cursor<'a> {
         };
         self.rest = rest;
         Ok(piece_of(self.text, token))
+    }
+
+    /// Takes the next token, which is to be a name that is this word, in any case of letters. `word` is in upper case.
+    #[tactic(auto, unfolding(syntax::specs::Grammar::name_of))]
+    pub fn expect_word(&mut self, word: &[u8]) -> Result<Piece<'a>, Stop>
+        ensures { Reads (rd.expect_where k.Name (λ x. bytes_eq (name_of x) word.now) self.old) result self.new }
+    {
+        let Some((token, rest)) = self.rest.split_first() else {
+            return Err(Stop::Syntax);
+        };
+        let piece = piece_of(self.text, token);
+        if !piece.is(Kind::Name) || !is_spelled(piece.spelling, word) {
+            return Err(Stop::Syntax);
+        }
+        self.rest = rest;
+        Ok(piece)
     }
 
     /// Takes the next token, which is known to be of this kind.

@@ -97,6 +97,21 @@ impl Indexes {
         Ok(Indexes { list })
     }
 
+    /// Indexes of no rows, by the same columns.
+    pub fn emptied(&self) -> Result<Indexes, AllocError>
+        ensures { IfOk result (λ indexes. (key_column : ℕ) → AreIndexesOf key_column [] indexes) }
+    {
+        let alloc = *self.list.allocator();
+        let mut list = Vec::new(alloc);
+        for it in &self.list {
+            list.push(ColumnIndex {
+                column: it.column,
+                index: Index::new(alloc),
+            })?;
+        }
+        Ok(Indexes { list })
+    }
+
     /// What was changed since it was last shared comes into its place, if nobody shares the rest. The indexes stay as
     /// they are, also where memory runs out.
     pub fn settle(&mut self)

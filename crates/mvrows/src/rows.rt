@@ -14,6 +14,7 @@ ghost use Rattle.value.specs.Ordered.{HasKey, IsAscending};
 ghost use Rattle.value.specs.ValueOrder.{value_cmp};
 ghost use Rattle.value.specs.declared.values.Value.{Value as values};
 
+use crate::index_scans::IndexScan;
 use crate::indexes::Indexes;
 use crate::iterators::RowIter;
 use groups::{Index, Keys};
@@ -57,6 +58,17 @@ impl Rows {
             pages: DifferentialMap::new(alloc),
             indexes: Indexes::new(alloc),
         }
+    }
+
+    /// The version of the same table without rows, which has indexes by the same columns.
+    pub fn emptied(&self, alloc: Global) -> Result<Rows, AllocError>
+        ensures { IfOk result (λ rows. rows ≡ []) }
+    {
+        Ok(Rows {
+            column: self.column,
+            pages: DifferentialMap::new(alloc),
+            indexes: self.indexes.emptied()?,
+        })
     }
 
     /// How many rows there are. It takes no memory.
@@ -120,17 +132,31 @@ impl Rows {
     ) -> Result<Vec<&Row>, AllocError>
         ensures { IfOk result (λ rows. map (λ row. row.now) rows.items ≡ rows_with column value.now self.now) }
     {
-        // The proof reads that rows are in the order of the column that they are kept by.
-        let is_keyed = is_keyed(&self.pages, self.column, key_column);
-        if is_keyed {
-            if column == key_column {
-                return self.row_alone(alloc, key_column, value);
-            }
-            if let Some(index) = self.index_for(key_column, column, value) {
-                return self.rows_under(alloc, key_column, index.keys(value));
-            }
+        if column == key_column && is_keyed(&self.pages, self.column, key_column) {
+            return self.row_alone(alloc, key_column, value);
         }
-        self.scan_rows(alloc, column, value)
+        match self.index_scan(key_column, column, value) {
+            Some(rows) => collect(alloc, rows),
+            None => self.scan_rows(alloc, column, value),
+        }
+    }
+
+    /// The same rows, one after the other, where an index has their keys: a few steps for each, and none for the
+    /// others. It takes no memory.
+    pub fn index_scan(
+        &self,
+        key_column: usize,
+        column: usize,
+        value: &Value,
+    ) -> Option<IndexScan<'_>>
+        ensures { IfSome result (λ rows. rows ≡ rows_with column value.now self.now) }
+    {
+        // The proof reads that rows are in the order of the column that they are kept by.
+        if !is_keyed(&self.pages, self.column, key_column) {
+            return None;
+        }
+        let index = self.index_for(key_column, column, value)?;
+        Some(IndexScan::new(self, key_column, index.keys(value)))
     }
 
     /// The row under a key, as the only one, if there is one.
@@ -146,25 +172,6 @@ impl Rows {
         let mut rows = Vec::new(alloc);
         if let Some(row) = self.get(key_column, key) {
             rows.push(row)?;
-        }
-        Ok(rows)
-    }
-
-    /// The rows under these keys.
-    fn rows_under(
-        &self,
-        alloc: Global,
-        key_column: usize,
-        keys: Keys<'_>,
-    ) -> Result<Vec<&Row>, AllocError>
-        ensures { IfOk result (λ rows.
-            map (λ row. row.now) rows.items ≡ filter_map (λ key. row_at key_column key self.now) keys.entry) }
-    {
-        let mut rows = Vec::new(alloc);
-        for key in keys {
-            if let Some(row) = self.get(key_column, key) {
-                rows.push(row)?;
-            }
         }
         Ok(rows)
     }
@@ -315,6 +322,17 @@ fn index_of(pages: &Pages<Row>, key_column: usize, column: usize) -> Result<Inde
         index = index.with_row(column, &entry.0, &entry.1)?;
     }
     Ok(index)
+}
+
+/// The rows that are lent, as a list.
+fn collect(alloc: Global, rows: IndexScan<'_>) -> Result<Vec<&Row>, AllocError>
+    ensures { IfOk result (λ list. map (λ row. row.now) list.items ≡ rows.entry) }
+{
+    let mut list = Vec::new(alloc);
+    for row in rows {
+        list.push(row)?;
+    }
+    Ok(list)
 }
 
 /// Keys equal to these.

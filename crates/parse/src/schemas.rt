@@ -11,8 +11,8 @@ use crate::columns::parse_parens_columns;
 use crate::inserts::parse_insert;
 use condition_parser::parse_condition;
 use leaf_parser::{
-    Collection, Cursor, Part, RepeatedPart, Stop, collect_many, drop_and_stop, expect_after,
-    parse_name, parse_parens,
+    Collection, Cursor, NamePart, Part, RepeatedPart, Stop, collect_many, drop_and_stop,
+    expect_after, parse_name, parse_parens,
 };
 use sqlite_items::Boxed;
 use std::alloc::Global;
@@ -85,6 +85,23 @@ fn parse_assertion(alloc: Global, cursor: &mut Cursor<'_>, depth: usize) -> Resu
     }
 }
 
+/// `INDEX name ON name "(" name ")"`
+#[tactic(auto, unfolding(syntax::specs::SchemaReaders::index))]
+fn parse_index(alloc: Global, cursor: &mut Cursor<'_>, depth: usize) -> Result<Definition, Stop>
+    ensures { Reads (reader.index depth cursor.old) result cursor.new }
+{
+    cursor.expect_word(b"INDEX")?;
+    let name = parse_name(alloc, cursor)?;
+    cursor.expect(Kind::On)?;
+    let table = parse_name(alloc, cursor)?;
+    let column = parse_parens(&NamePart(alloc), cursor, depth)?;
+    Ok(Definition::Index {
+        name,
+        table,
+        column,
+    })
+}
+
 /// What follows CREATE.
 #[tactic(auto, unfolding(syntax::specs::SchemaReaders::created))]
 fn parse_created(alloc: Global, cursor: &mut Cursor<'_>, depth: usize) -> Result<Definition, Stop>
@@ -93,11 +110,12 @@ fn parse_created(alloc: Global, cursor: &mut Cursor<'_>, depth: usize) -> Result
     match cursor.peek() {
         Kind::Table => parse_table(alloc, cursor, depth),
         Kind::Assertion => parse_assertion(alloc, cursor, depth),
+        Kind::Name => parse_index(alloc, cursor, depth),
         _ => Err(Stop::Syntax),
     }
 }
 
-/// `CREATE TABLE .. | CREATE ASSERTION .. | INSERT ..`
+/// `CREATE TABLE .. | CREATE ASSERTION .. | CREATE INDEX .. | INSERT ..`
 #[tactic(auto, unfolding(syntax::specs::SchemaReaders::definition))]
 fn parse_definition(
     alloc: Global,

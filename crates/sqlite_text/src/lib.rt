@@ -67,8 +67,8 @@ fn print_all<W: Write>(
         print_table(&mut sql, view, table, out)?;
     }
     sql.add("COMMIT;\n");
-    write_out(&mut sql, out)?;
-    flush(out)
+    sql.finish_into(out)?;
+    Ok(())
 }
 
 /// Adds a comment that says after which commit the rows are so.
@@ -121,29 +121,8 @@ fn print_row<W: Write>(
     ensures late { IfErr result (λ fault. is_before_writing fault ≡ false) }
 {
     tables::add_row(sql, view, table, row);
-    if sql.text()?.len() < PIECE {
-        return Ok(());
+    if sql.text()?.len() >= PIECE {
+        sql.write_into(out)?;
     }
-    write_out(sql, out)
-}
-
-/// Writes what was put together, and empties it.
-fn write_out<W: Write>(sql: &mut Printout, out: &mut W) -> Result<(), PrintFault>
-    ensures late { IfErr result (λ fault. is_before_writing fault ≡ false) }
-{
-    let text = sql.text()?;
-    if out.write_all(text.as_bytes()).is_err() {
-        return Err(PrintFault::Output);
-    }
-    sql.clear();
     Ok(())
-}
-
-fn flush<W: Write>(out: &mut W) -> Result<(), PrintFault>
-    ensures late { IfErr result (λ fault. is_before_writing fault ≡ false) }
-{
-    match out.flush() {
-        Ok(()) => Ok(()),
-        Err(_) => Err(PrintFault::Output),
-    }
 }

@@ -61,7 +61,7 @@ pub fn add_table(sql: &mut Printout, view: &View, table: usize) {
 }
 
 fn add_column(sql: &mut Printout, column: &Column, is_key: bool) {
-    add_name(sql, &column.name);
+    sql.add_name(&column.name);
     match column.kind {
         ColType::Integer => sql.add(" INTEGER"),
         ColType::Varchar(most) => add_text_kind(sql, most),
@@ -85,26 +85,13 @@ fn add_text_kind(sql: &mut Printout, most: u8) {
 pub fn add_row(sql: &mut Printout, view: &View, table: usize, row: &Row) {
     sql.add("INSERT INTO ");
     add_table_name(sql, view, table);
-    let mut before = " VALUES (";
-    for value in row.values() {
-        sql.add(before);
-        sql.show(value);
-        before = ", ";
-    }
+    sql.show_list(" VALUES (", row.values(), ", ");
     sql.add(");\n");
 }
 
 /// Adds the name of a table.
 fn add_table_name(sql: &mut Printout, view: &View, table: usize) {
     if let Some(name) = view.catalog().name(table) {
-        add_name(sql, name);
+        sql.add_name(name);
     }
-}
-
-/// Adds a name in double quotes, in which it is never a reserved word. It holds no quote itself: the names of the
-/// language are letters, digits and `_`.
-fn add_name(sql: &mut Printout, name: &Text) {
-    sql.add("\"");
-    sql.show(name);
-    sql.add("\"");
 }

@@ -54,6 +54,9 @@ opens_then P o w rest b h =
 pub opens_token : {B : Type 0} {M : Lexeme → Language B} (P : Kind → Type 0) (kind : Kind) → P kind → Opens (Then (lang.token kind) M) P
 opens_token {M = M} P kind p w rest b h = subst P (sym (kind_first kind M w rest b h)) p
 
+pub opens_where : (P : Kind → Type 0) (kind : Kind) (test : Lexeme → Bool) → P kind → Opens (lang.token_where kind test) P
+opens_where P kind test p w rest x h = subst (λ t. P (kind_at (t ++ rest))) (sym h.0) (subst P (sym h.1) p)
+
 pub opens_either : {A : Type 0} {K L : Language A} (P : Kind → Type 0) → Opens K P → Opens L P → Opens (lang.◌∪◌ K L) P
 opens_either P f g w rest a (inl h) = f w rest a h
 opens_either P f g w rest a (inr h) = g w rest a h

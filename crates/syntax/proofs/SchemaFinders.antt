@@ -20,13 +20,14 @@ use Rattle.syntax.specs.Reading.{by_kind, list, expect_where}
 use Rattle.syntax.specs.Reading as rd
 use Rattle.syntax.proofs.WordLaws.{Finds, Accepts, finds_pure}
 use Rattle.syntax.proofs.Loops.{finds_parens, finds_where, Opening, Loops}
-use Rattle.syntax.proofs.Follow.{rank, Opens, opens_then, opens_token, opens_either, Follows, follows_opens, follows_pure, follows_either, follows_map, token_opening, then_f, map_f, seq_f, lower, all_f, pick, Goes, route}
+use Rattle.syntax.proofs.Finders.{name_f}
+use Rattle.syntax.proofs.Follow.{rank, Opens, opens_then, opens_token, opens_where, opens_either, Follows, follows_opens, follows_pure, follows_either, follows_map, token_opening, then_f, map_f, seq_f, lower, all_f, pick, Goes, route}
 use Rattle.syntax.proofs.Parts.{optional_f, optional_follows, list_f}
 use Rattle.syntax.proofs.Loops.{finds_expect}
 use Rattle.syntax.proofs.Whole.{Exact}
 use Rattle.syntax.proofs.Finders.{cond_at_f}
 use Rattle.syntax.proofs.StatementFinders.{named, insert_f, insert_opens, when_f, event_f}
-use Rattle.syntax.proofs.SchemaSounds.{defs_s, script_s, table_in, assertion_in}
+use Rattle.syntax.proofs.SchemaSounds.{defs_s, script_s, table_in, assertion_in, index_in}
 
 type_f : (m n : ℕ) → Finds rank m dg.column_type (r.column_type n)
 unfolding dg.column_type r.column_type
@@ -160,6 +161,16 @@ table_f : (n : ℕ) → Finds rank 0 table_in (r.table n)
 unfolding r.table
 table_f n = seq_f 0 k.Table (named 0 (λ name. map_f 0 (d.Table name) (finds_parens rank 0 n (lang.list dg.col) (list (r.col (n - 1))) (omega arith) (λ i is. lower 0 3 (omega arith) (list_f (col_f (n - 1)))))))
 
+-- what begins with a name
+name_opens : {B : Type 0} {M : List ℕ → Language B} (P : Kind → Type 0) → P k.Name → Opens (Then g.name M) P
+name_opens {B = B} {M = M} P p = opens_then {A = List ℕ} {B = B} {K = g.name} {M = M} P (opens_token {B = List ℕ} {M = λ x. lang.pure (g.name_of x)} P k.Name p)
+
+index_f : (n : ℕ) → Finds rank 0 index_in (r.index n)
+unfolding r.index
+index_f n = then_f 7 0 (finds_where rank 7 k.Name dg.is_index)
+    (λ w x h. named 0 (λ index. seq_f 0 k.On (named 0 (λ table. map_f 0 (d.Index index table) (finds_parens rank 0 n g.name q.name (omega arith) (λ i is. name_f 0))))))
+    (λ x. follows_opens 7 0 (name_opens (λ kind. rank kind ≤ 7) (omega arith)))
+
 module _ (n l : ℕ) where
   assertion_f : Finds rank 0 (assertion_in (g.nested l)) (r.assertion n)
   unfolding r.assertion
@@ -174,13 +185,20 @@ module _ (n l : ℕ) where
   unfolding r.created
   created_assertion = record { finds = λ w rest x h small. pick (r.created_by n) k.Assertion 0 refl assertion_f w rest x h small }
 
+  created_index : Finds rank 0 index_in (r.created n)
+  unfolding r.created
+  created_index = record { finds = λ w rest x h small. route (r.created_by n) 0 (index_f n) (opens_then (Goes (r.created_by n) (r.index n)) (opens_where (Goes (r.created_by n) (r.index n)) k.Name dg.is_index refl)) w rest x h small }
+
   def_f : Finds rank 0 (dg.definition (g.nested l)) (r.definition n)
-  unfolding dg.definition dg.table dg.assertion r.definition
+  unfolding dg.definition dg.table dg.assertion dg.index r.definition
   def_f = record { finds = go }
     where
-      go : (w rest : Lexemes) (x : Definition) → lang.◌∪◌ (lang.◌∪◌ (lang.◌>>◌ (lang.token k.Create) table_in) (lang.◌>>◌ (lang.token k.Create) (assertion_in (g.nested l)))) (lang.◌<$>◌ d.Insert st.insert) w x → rank (kind_at rest) ≤ 0 → Accepts (by_kind (r.definition_by n) (w ++ rest)) x rest
-      go w rest x (inl (inl h)) small = pick (r.definition_by n) k.Create 0 refl (seq_f 0 k.Create created_table) w rest x h small
-      go w rest x (inl (inr h)) small = pick (r.definition_by n) k.Create 0 refl (seq_f 0 k.Create created_assertion) w rest x h small
+      go : (w rest : Lexemes) (x : Definition)
+          → lang.◌∪◌ (lang.◌∪◌ (lang.◌∪◌ (lang.◌>>◌ (lang.token k.Create) table_in) (lang.◌>>◌ (lang.token k.Create) (assertion_in (g.nested l)))) (lang.◌>>◌ (lang.token k.Create) index_in)) (lang.◌<$>◌ d.Insert st.insert) w x
+          → rank (kind_at rest) ≤ 0 → Accepts (by_kind (r.definition_by n) (w ++ rest)) x rest
+      go w rest x (inl (inl (inl h))) small = pick (r.definition_by n) k.Create 0 refl (seq_f 0 k.Create created_table) w rest x h small
+      go w rest x (inl (inl (inr h))) small = pick (r.definition_by n) k.Create 0 refl (seq_f 0 k.Create created_assertion) w rest x h small
+      go w rest x (inl (inr h)) small = pick (r.definition_by n) k.Create 0 refl (seq_f 0 k.Create created_index) w rest x h small
       go w rest x (inr h) small =
           let P : Kind → Type 0 = Goes (r.definition_by n) (rd.◌<$>◌ d.Insert (sr.insert n)) in
           route (r.definition_by n) 0 (map_f 0 d.Insert (insert_f n)) (opens_then P (insert_opens P refl)) w rest x h small
@@ -201,9 +219,10 @@ module _ (n l : ℕ) where
   insert_opening w x h = token_opening r.starts_definition k.Insert _ refl w x h
 
   def_opening : (w : Lexemes) (x : Definition) → dg.definition (g.nested l) w x → Opening r.starts_definition (dg.definition (g.nested l)) w
-  unfolding dg.definition dg.table dg.assertion
-  def_opening w x (inl (inl h)) = let o = token_opening r.starts_definition k.Create (λ _. table_in) refl w x h in record { token = o.token; more = o.more; is = o.is; passes = o.passes }
-  def_opening w x (inl (inr h)) = let o = token_opening r.starts_definition k.Create (λ _. assertion_in (g.nested l)) refl w x h in record { token = o.token; more = o.more; is = o.is; passes = o.passes }
+  unfolding dg.definition dg.table dg.assertion dg.index
+  def_opening w x (inl (inl (inl h))) = let o = token_opening r.starts_definition k.Create (λ _. table_in) refl w x h in record { token = o.token; more = o.more; is = o.is; passes = o.passes }
+  def_opening w x (inl (inl (inr h))) = let o = token_opening r.starts_definition k.Create (λ _. assertion_in (g.nested l)) refl w x h in record { token = o.token; more = o.more; is = o.is; passes = o.passes }
+  def_opening w x (inl (inr h)) = let o = token_opening r.starts_definition k.Create (λ _. index_in) refl w x h in record { token = o.token; more = o.more; is = o.is; passes = o.passes }
   def_opening w x (inr h) = let o = opening_then r.starts_definition st.insert (λ a. lang.pure (d.Insert a)) insert_opening w x h in record { token = o.token; more = o.more; is = o.is; passes = o.passes }
 
   def_loop : Loops rank 1 0 r.starts_definition (dg.ended_definition (g.nested l))

@@ -1,4 +1,5 @@
 -- Each reader of definitions and scripts is sound for its part of the grammar.
+use Rattle.std.specs.Prelude.{codes}
 use Rattle.std.proofs.Common.{◌≡◌, ℕ, suc, ◌+◌, ◌-◌, ◌≤◌, ◌<◌, true, false, [], ◌∷◌, length, Some, None, refl, subst, inl, inr, arith, ap, length-append}
 use Rattle.token.specs.declared.kinds.Kind.{Kind}
 use Rattle.token.specs.declared.kinds.Kind.TheVariants as k
@@ -133,6 +134,18 @@ table_s n = seq_s k.Table refl (then_s (name_s n) (λ w name h. map_s (d.Table n
 abbrev pub assertion_in : Language PartInParentheses → Language Definition
 assertion_in inner = Then (lang.token k.Assertion) (λ _. lang.◌>>=◌ g.name (λ name. lang.◌>>◌ (lang.token k.Check) (lang.◌>>=◌ (lang.parens (g.inner_cond inner)) (λ c. lang.◌<$>◌ (d.Assertion name c) dg.attributes))))
 
+abbrev pub index_in : Language Definition
+index_in = Then (lang.token_where k.Name dg.is_index) (λ _. lang.◌>>=◌ g.name (λ index. lang.◌>>◌ (lang.token k.On) (lang.◌>>=◌ g.name (λ table. lang.◌<$>◌ (d.Index index table) (lang.parens g.name)))))
+
+-- INDEX itself
+some_index : Begins (lang.token_where k.Name dg.is_index) []
+unfolding g.name_of
+some_index = let x : Lexeme = record { kind = k.Name; spelling = codes "INDEX"; at = 0 } in (x ∷ [], x, (refl, refl, refl))
+
+index_s : (n : ℕ) → Sound n n index_in (r.index n)
+unfolding r.index
+index_s n = then_s (sound_where n n k.Name dg.is_index refl some_index) (λ w x h. then_s (name_s n) (λ w index h. seq_s k.On refl (then_s (name_s n) (λ w table h. map_s (d.Index index table) (sound_parens n g.name q.name (name_s 0).begins (λ m is. name_s m))))))
+
 module _ (n l : ℕ) (below : n + 1 < l) where
   cond_inside : (m : ℕ) → n ≡ suc m → Sound m m (g.conditions l) (q.cond_at (n - 1))
   cond_inside m is = let less : m ≡ n - 1 = omega arith in subst (λ i. Sound m m (g.conditions l) (q.cond_at i)) less (cond_at_s m l (omega arith))
@@ -145,16 +158,20 @@ module _ (n l : ℕ) (below : n + 1 < l) where
   assertion_s = seq_s k.Assertion refl (then_s (name_s n) (λ w name h. seq_s k.Check refl (then_s (sound_parens n (g.conditions l) (q.cond_at (n - 1)) some_c cond_inside) (λ w c h. map_s (d.Assertion name c) (attrs_s n)))))
 
   abbrev created_in : Language Definition
-  created_in = lang.◌∪◌ table_in (assertion_in (g.nested l))
+  created_in = lang.◌∪◌ (lang.◌∪◌ table_in (assertion_in (g.nested l))) index_in
 
   created_by_s : (kind : Kind) → Sound n n created_in (r.created_by n kind)
-  created_by_s k.Table = weak (λ w a h. inl h) (table_s n)
-  created_by_s k.Assertion = weak (λ w a h. inr h) assertion_s
-  created_by_s _ = sound_refuse n n created_in (weak {L = created_in} (λ w a h. inl h) (table_s n)).begins
+  created_by_s k.Table = weak (λ w a h. inl (inl h)) (table_s n)
+  created_by_s k.Assertion = weak (λ w a h. inl (inr h)) assertion_s
+  created_by_s k.Name = weak (λ w a h. inr h) (index_s n)
+  created_by_s _ = sound_refuse n n created_in (weak {L = created_in} (λ w a h. inl (inl h)) (table_s n)).begins
 
   create_into : (w : Lexemes) (x : Definition) → Then (lang.token k.Create) (λ _. created_in) w x → dg.definition (g.nested l) w x
-  unfolding dg.definition dg.table dg.assertion
-  create_into = token_either k.Create table_in (assertion_in (g.nested l)) (dg.definition (g.nested l)) (λ w x h. inl (inl h)) (λ w x h. inl (inr h))
+  unfolding dg.definition dg.table dg.assertion dg.index
+  create_into =
+      token_either k.Create (lang.◌∪◌ table_in (assertion_in (g.nested l))) index_in (dg.definition (g.nested l))
+      (token_either k.Create table_in (assertion_in (g.nested l)) (dg.definition (g.nested l)) (λ w x h. inl (inl (inl h))) (λ w x h. inl (inl (inr h))))
+      (λ w x h. inl (inr h))
 
   insertion_s : Sound n n (dg.definition (g.nested l)) (r.definition_by n k.Insert)
   unfolding dg.definition

@@ -1,5 +1,6 @@
 -- The grammar of definitions and scripts: which texts of tokens have which trees.
-use Rattle.std.specs.Prelude.{ℕ, Bool, true, false, ◌&&◌, nat_le, List, [], Option, Some, None}
+use Rattle.std.specs.Prelude.{ℕ, Bool, true, false, ◌&&◌, nat_le, List, [], Option, Some, None, codes}
+use Rattle.std.specs.Str.{bytes_eq}
 use Rattle.token.specs.declared.kinds.Kind.TheVariants as k
 use Rattle.value.specs.declared.values.ColType.{ColType}
 use Rattle.value.specs.declared.values.ColType.TheVariants as kind_of
@@ -13,7 +14,7 @@ use Rattle.syntax.specs.declared.statements.ScriptLine.{ScriptLine}
 use Rattle.syntax.specs.declared.statements.Event.{Event}
 use Rattle.syntax.specs.declared.statements.Insert.{Insert}
 use Rattle.syntax.specs.declared.wants.PartInParentheses.{PartInParentheses}
-use Rattle.syntax.specs.Grammar.{digits_value, name, inner_cond, nested}
+use Rattle.syntax.specs.Grammar.{digits_value, name, name_of, inner_cond, nested}
 use Rattle.syntax.specs.StatementGrammar.{insert, check_time, one_event}
 use Rattle.syntax.specs.Language.{Lexeme, Language, ◌>>=◌, ◌>>◌, ◌<$>◌, ◌∪◌, pure, token, token_where, optional, list, parens, Behind, Some_level}
 
@@ -84,6 +85,16 @@ attributes =
 unfoldable pub table : Language Definition
 table = token k.Create >> (token k.Table >> (name >>= (λ name. d.Table name <$> parens (list col))))
 
+-- INDEX, which is a name wherever no index is created
+abbrev pub is_index : Lexeme → Bool
+is_index x = bytes_eq (name_of x) (codes "INDEX")
+
+-- CREATE INDEX name ON name "(" name ")"
+unfoldable pub index : Language Definition
+index =
+    token k.Create >> (token_where k.Name is_index >> (name >>= (λ index.
+    token k.On >> (name >>= (λ table. d.Index index table <$> parens name)))))
+
 -- the tree of a line of a script: the name of a session, and its event
 abbrev pub script_line_of : List ℕ → Event → ScriptLine
 script_line_of session event = record { session = session; event = event }
@@ -95,9 +106,9 @@ module _ (inner : Language PartInParentheses) where
       token k.Create >> (token k.Assertion >> (name >>= (λ name.
       token k.Check >> (parens (inner_cond inner) >>= (λ c. d.Assertion name c <$> attributes)))))
 
-  -- def: a table definition, an assertion definition (11.34) or an insert statement
+  -- def: a table definition, an assertion definition (11.34), an index or an insert statement
   unfoldable pub definition : Language Definition
-  definition = table ∪ assertion ∪ (d.Insert <$> insert)
+  definition = table ∪ assertion ∪ index ∪ (d.Insert <$> insert)
 
   -- def ";"
   unfoldable pub ended_definition : Language Definition

@@ -13,7 +13,7 @@ use Rattle.syntax.specs.declared.definitions.Definition.TheVariants as d
 use Rattle.syntax.specs.declared.statements.ScriptLine.{ScriptLine}
 use Rattle.syntax.specs.declared.statements.Insert.{Insert}
 use Rattle.syntax.specs.Readers.{name, cond_at}
-use Rattle.syntax.specs.SchemaGrammar.{is_width, varchar_of, is_present, marks_of, column_definition, attributes_of, script_line_of}
+use Rattle.syntax.specs.SchemaGrammar.{is_index, is_width, varchar_of, is_present, marks_of, column_definition, attributes_of, script_line_of}
 use Rattle.syntax.specs.StatementReaders.{insert, check_time, one_event}
 use Rattle.syntax.specs.Language.{Lexeme}
 use Rattle.syntax.specs.Reading.{Reader, ◌>>=◌, ◌>>◌, ◌<$>◌, pure, refuse, by_kind, expect, expect_where, optional, list, all, parens}
@@ -119,13 +119,20 @@ module _ (n : ℕ) where
       expect k.Assertion >> (name >>= (λ name.
       expect k.Check >> (parens n (cond_at (n - 1)) >>= (λ c. d.Assertion name c <$> attributes))))
 
+  -- reads an index, behind CREATE
+  unfoldable pub index : Reader Definition
+  index =
+      expect_where k.Name is_index >> (name >>= (λ index.
+      expect k.On >> (name >>= (λ table. d.Index index table <$> parens n name))))
+
   -- what follows CREATE, by the kind of the next token
   abbrev pub created_by : Kind → Reader Definition
   created_by k.Table = table
   created_by k.Assertion = assertion
+  created_by k.Name = index
   created_by _ = refuse
 
-  -- reads what follows CREATE: a table or an assertion
+  -- reads what follows CREATE: a table, an assertion or an index
   unfoldable pub created : Reader Definition
   created = by_kind created_by
 

@@ -40,4 +40,10 @@ pub enum Definition {
         attributes: Attributes,
     },
     Insert(Insert),
+    /// An index by a column of a table. SQL-92 has none; it changes no answer.
+    Index {
+        name: Text,
+        table: Text,
+        column: Text,
+    },
 }

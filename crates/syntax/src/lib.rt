@@ -74,13 +74,15 @@
 //! # Statements, events, definitions and scripts
 //!
 //! The rules are a cut of SQL-92 (ISO/IEC 9075:1992: data manipulation, table definition, assertion
-//! definition, set constraints mode), with this project's VERDICT and scripts of several sessions.
+//! definition, set constraints mode), with this project's VERDICT and scripts of several sessions,
+//! and with indexes, which SQL-92 leaves out.
 //! They stand over these conditions and expressions:
 //!
 //! ```text
 //! defs   = { def ";" }                     script = { name ":" event ";" }
 //! def    = CREATE TABLE name "(" col { "," col } ")"
 //!        | CREATE ASSERTION name CHECK "(" cond ")" [attrs] | insert
+//!        | CREATE INDEX name ON name "(" name ")"         (INDEX is no reserved word)
 //! col    = name type [ NOT NULL [PRIMARY KEY] | PRIMARY KEY [NOT NULL] ]
 //! type   = INTEGER | INT | VARCHAR "(" number ")"          (a number from 1 to 255)
 //! attrs  = when [defer] | defer [when]

@@ -14,6 +14,8 @@ mod files;
 #[cfg(test)]
 mod gates;
 #[cfg(test)]
+mod indexes;
+#[cfg(test)]
 mod links;
 #[cfg(test)]
 mod outputs;

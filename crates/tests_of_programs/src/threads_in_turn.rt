@@ -273,7 +273,13 @@ fn prints_unrun<N: Named + Send + Sync, R: Threads + Wait + Abort + Sync>(
     let answered = run_sessions(rt, alloc, &manager, scripts.as_slice(), &Free)?;
     let mut out = Vec::new(alloc);
     let history = manager.close();
-    let printed = print_report(&history, scripts.as_slice(), answered.as_slice(), &mut out);
+    let printed = print_report(
+        &history,
+        None,
+        scripts.as_slice(),
+        answered.as_slice(),
+        &mut out,
+    );
     assert!(rt; matches!(printed, Err(ProgramFault::NoThread)));
     assert_eq!(rt;
         out.as_slice(),

@@ -64,6 +64,7 @@ pub enum Kind {
     Min,
     Not,
     Null,
+    On,
     Only,
     Or,
     Primary,
@@ -85,11 +86,12 @@ pub enum Kind {
 
 // The reserved words in upper case, by their length. The list is this project's choice: SQL-92 reserves more.
 
-pub(crate) const WORDS_OF_2: [(&[u8], Kind); 5] = [
+pub(crate) const WORDS_OF_2: [(&[u8], Kind); 6] = [
     (b"AS", Kind::As),
     (b"BY", Kind::By),
     (b"IN", Kind::In),
     (b"IS", Kind::Is),
+    (b"ON", Kind::On),
     (b"OR", Kind::Or),
 ];
 

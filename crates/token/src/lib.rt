@@ -3,7 +3,7 @@
 //! A text is a list of bytes. Its tokens follow SQL-92 (ISO/IEC 9075:1992, tokens and
 //! separators), cut to what this project reads:
 //!
-//! - a word: a letter, then letters, digits and `_`. It is one of fifty-one reserved words, or else a
+//! - a word: a letter, then letters, digits and `_`. It is one of fifty-two reserved words, or else a
 //!   name; case does not count, and a name is taken in upper case. (The list of reserved words and
 //!   the limit of 128 bytes, SQL-92's limit of an identifier, are this project's choice.)
 //! - a number: the longest run of digits, at most 10^15 (this project's choice). A number directly
@@ -27,7 +27,8 @@
 //! [`read_tokens`] gives all tokens of a text, in their order and apart from one another. It refuses no
 //! text: a bad token is its last one, of kind `Bad`, since whether a text is refused at that token
 //! or before it is for the grammar to say. What the bytes of a token stand for is a function of the
-//! bytes alone: [`number_value`], [`name_bytes`] and [`text_bytes`].
+//! bytes alone: [`number_value`], [`name_bytes`] and [`text_bytes`]; [`is_spelled`] compares a word as a name is
+//! compared.
 #![tactic(auto)]
 
 mod kinds;
@@ -41,4 +42,4 @@ pub use kinds::Kind;
 pub use nexts::{next_token, read_tokens};
 pub use readings::{name_bytes, text_bytes};
 pub use spans::Token;
-pub use words::number_value;
+pub use words::{is_spelled, number_value};

@@ -53,8 +53,8 @@ fn is_alike(word: &[u8], upper: &[u8]) -> bool
         .all(|(a, b)| a.to_ascii_uppercase() == *b)
 }
 
-/// Whether the word in upper case is this one.
-fn is_spelled(word: &[u8], upper: &[u8]) -> bool
+/// Whether a word is this one, in any case of letters: whether it is `upper` in upper case.
+pub fn is_spelled(word: &[u8], upper: &[u8]) -> bool
     ensures { result ≡ bytes_eq (byte.name_of word.now) upper.now }
 {
     word.len() == upper.len() && is_alike(word, upper)
