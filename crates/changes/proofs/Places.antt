@@ -243,6 +243,13 @@ module _ (layouts : List Layout) (start before after : State) where
         (put_at place changes c.exact (noted_at old place) (inl (h.each place, c.elsewhere place)));
   }
 
+-- what is noted is noted still where there is more room
+pub noted_room : (layouts : List Layout) (start now : State) (old new : Noted) → ((place : Place) → noted_at new place ≡ noted_at old place)
+    → AreNoted layouts start now old → AreNoted layouts start now new
+noted_room layouts start now old new same h = record {
+  each = λ place. subst (λ o. IsNoted o (row_in layouts start place) (row_in layouts now place)) (sym (same place)) (h.each place);
+}
+
 -- tables are a state in key order
 pub tables_state : (layouts : List Layout) (state : State) → AreTables layouts state → IsState layouts state
 tables_state layouts state t = record { long = t.long; ordered = λ table. (t.each table).ascending }
@@ -260,8 +267,8 @@ room_same old new p none puts q = ap (λ o. unwrap_or o None) (puts q) ∙ go (i
     go false e = refl
     go true e = subst (λ place. None ≡ unwrap_or (entry_at old place) None) (same_place-true p q (sym (is_eq-place p q) ∙ e)) (absent (entry_at old p) none)
 
--- a change put in where there is room
-pub change_put : (old new : Noted) (change : Change) (rows put : Option RowsThere) → entry_at old (place_of change) ≡ Some rows
+-- a change put in, whether there is room for it or not
+pub change_put : (old new : Noted) (change : Change) (rows put : Option RowsThere) → noted_at old (place_of change) ≡ rows
     → put ≡ Some (rows_after change.old change.new rows) → ((q : Place) → entry_at new q ≡ cond (is_at (place_order.it (place_of change)) q) (Some put) (entry_at old q))
     → (q : Place) → noted_at new q ≡ noted_after change q (noted_at old q)
 change_put old new change rows put there is puts q =
@@ -274,5 +281,5 @@ change_put old new change rows put there is puts q =
         → unwrap_or (cond b (Some (Some (rows_after change.old change.new rows))) (entry_at old q)) None ≡ cond b (Some (rows_after change.old change.new (noted_at old q))) (noted_at old q)
     go false e = refl
     go true e =
-        ap (λ o. Some (rows_after change.old change.new (unwrap_or o None)))
-        (sym there ∙ ap (entry_at old) (same_place-true (place_of change) q e))
+        ap (λ o. Some (rows_after change.old change.new o))
+        (sym there ∙ ap (noted_at old) (same_place-true (place_of change) q e))

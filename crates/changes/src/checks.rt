@@ -4,20 +4,21 @@ ghost use Rattle.std.specs.Prelude.{◌≡◌, ◌<◌, ◌++◌, [], flat_map, 
 ghost use Rattle.std.specs.Prelude.{if◌then◌else◌, IfOk, OnOk};
 ghost use Rattle.std.specs.Option.{option_copied};
 ghost use Rattle.assertion.specs.declared.assertions.Assertion.{Assertion as AnyAssertion};
-ghost use Rattle.assertion.specs.Candidates.{linked_values};
+ghost use Rattle.assertion.specs.Candidates.{candidates_of, linked_values};
 ghost use Rattle.assertion.specs.Declarations.{layouts_in};
-ghost use Rattle.table.specs.Rows.{key_of};
+ghost use Rattle.table.specs.Rows.{key_of, value_in};
 ghost use Rattle.siread.specs.declared.keys.LockKey.TheVariants.{Column as InColumn, Table as WholeTable};
 ghost use Rattle.alone.specs.States.{row_in};
 ghost use Rattle.alone.specs.Modes.{immediate_ones};
 ghost use Rattle.alone.specs.Checks.{check_keys, checks_read as checks_read_of, finding_keys, inner_key as inner_key_of, keys_for, outer_keys, query_keys, row_keys, tables_in};
+ghost use Rattle.changes.specs.Lookups.{group_keys};
 
 use alone::Modes;
 use assertion::{Form, Link, Query};
 use delta::View;
 use siread::{LockKey, Place};
 use std::alloc::{AllocError, Global};
-use table::{Change, Row};
+use table::{Change, Row, value_at};
 use value::{Root, Value};
 
 /// The keys that a check of the assertions meant reads on this view, over the changes that led to it: those by which
@@ -35,10 +36,26 @@ pub fn checks_read(
         (immediate_ones meant.now view.now.declared.assertions) changes.now) }
 {
     let mut keys = Vec::new(alloc);
-    for place in 0..meant.len() {
-        push_if_meant(&mut keys, view, meant.is_immediate(place), place, changes)?;
-    }
+    push_checks(&mut keys, view, meant, changes)?;
     Ok(keys)
+}
+
+/// Puts the same keys behind these.
+pub fn push_checks(
+    keys: &mut Vec<LockKey>,
+    view: &View,
+    meant: &Modes,
+    changes: &[Change],
+) -> Result<(), AllocError>
+    requires { length meant.now ≡ length view.now.declared.assertions }
+    ensures { OnOk result (keys.new.items ≡ keys.old.items
+        ++ checks_read_of (layouts_in view.now.declared) view.now.state
+        (immediate_ones meant.now view.now.declared.assertions) changes.now) }
+{
+    for place in 0..meant.len() {
+        push_if_meant(keys, view, meant.is_immediate(place), place, changes)?;
+    }
+    Ok(())
 }
 
 /// Puts what a check of an assertion reads behind the keys, if it is meant.
@@ -76,8 +93,72 @@ pub fn push_check(
 {
     let form = &view.assertions()[assertion].form;
     push_finding(keys, view, form, changes)?;
-    let roots = view.candidates(assertion, changes)?;
-    push_roots(keys, view, form, &roots)
+    push_looks(keys, view, assertion, changes)
+}
+
+/// Puts what a look at each candidate of the changes reads behind the keys. By groups the candidates are what the rows
+/// have in a column, which is what is read of them, so that no list of roots is made.
+fn push_looks(
+    keys: &mut Vec<LockKey>,
+    view: &View,
+    assertion: usize,
+    changes: &[Change],
+) -> Result<(), AllocError>
+    requires { assertion < length view.now.declared.assertions }
+    ensures { OnOk result ((a : AnyAssertion)
+        → keys.new.items ≡ keys.old.items
+        ++ flat_map (keys_for (layouts_in view.now.declared) view.now.state
+        (slice_index_or view.now.declared.assertions assertion a).form)
+        (candidates_of (layouts_in view.now.declared) view.now.state changes.now
+        (slice_index_or view.now.declared.assertions assertion a).form)) }
+{
+    let form = &view.assertions()[assertion].form;
+    match form {
+        Form::ByGroup { table, group, .. } => push_groups(keys, *table, *group, changes),
+        Form::ByRow { .. } | Form::Single { .. } => {
+            let roots = view.candidates(assertion, changes)?;
+            push_roots(keys, view, form, &roots)
+        }
+    }
+}
+
+/// Puts the groups of the rows of changes of a table behind the keys.
+fn push_groups(
+    keys: &mut Vec<LockKey>,
+    table: usize,
+    group: usize,
+    changes: &[Change],
+) -> Result<(), AllocError>
+    ensures { OnOk result (keys.new.items ≡ keys.old.items ++ flat_map (group_keys table group) changes.now) }
+{
+    for change in changes {
+        if table == change.table {
+            push_group(keys, table, group, &change.old)?;
+            push_group(keys, table, group, &change.new)?;
+        }
+    }
+    Ok(())
+}
+
+/// Puts the group of a row, if there is one, behind the keys. NULL is a group.
+fn push_group(
+    keys: &mut Vec<LockKey>,
+    table: usize,
+    column: usize,
+    row: &Option<Row>,
+) -> Result<(), AllocError>
+    ensures { OnOk result (keys.new.items
+        ≡ keys.old.items ++ map (λ row. InColumn table column (value_in column row)) (option_to_list row.now)) }
+{
+    if let Some(row) = row {
+        let value = value_at(row, column)?;
+        keys.push(LockKey::Column {
+            table,
+            column,
+            value,
+        })?;
+    }
+    Ok(())
 }
 
 /// Puts the keys by which the candidates of changes are found behind the keys.

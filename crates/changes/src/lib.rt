@@ -12,9 +12,10 @@
 //!   key order and then by assignments as they are written, refuses the whole ([`renewals`]).
 //! - A SELECT changes nothing, and lists what stands in such rows ([`selected_rows`]).
 //!
-//! Where a WHERE has `key = literal` among the parts that AND joins at its top, that one row is looked up, and else all
-//! rows are tested: one choice of rows for DELETE, UPDATE and SELECT. It is made by the key under which the WHERE reads
-//! ("Reads", below), which a [`TableFilter`] holds beside the WHERE.
+//! Where a WHERE has `key = literal` among the parts that AND joins at its top, that one row is looked up; where it has
+//! `column = literal` and the column has an index, the rows with that value are; and else all rows are tested: one
+//! choice of rows for DELETE, UPDATE and SELECT. It is made by the key under which the WHERE reads ("Reads", below),
+//! which a [`TableFilter`] holds beside the WHERE.
 //!
 //! What is left of a statement then are *changes*: of each the table, a key, the row that stood there and the row
 //! that is to stand there. Everything above works with changes alone.
@@ -73,7 +74,7 @@ mod touched;
 mod updates;
 mod wheres;
 
-pub use checks::{checks_read, push_check, tables_read};
+pub use checks::{checks_read, push_check, push_checks, tables_read};
 pub use deletions::removals;
 pub use filters::TableFilter;
 pub use insertions::insertion;

@@ -1,6 +1,6 @@
 //! The rows that a transaction has touched, and its net change.
 
-ghost use Rattle.std.specs.Prelude.{◌≡◌, ◌++◌, List, None, Some, Option, unwrap_or, IfOk, OnOk, OnErr, if◌then◌else◌};
+ghost use Rattle.std.specs.Prelude.{◌≡◌, ◌++◌, List, None, Some, Option, length, unwrap_or, IfOk, OnOk, OnErr, if◌then◌else◌};
 ghost use Rattle.table.specs.Rows.{Layout};
 ghost use Rattle.assertion.specs.Meaning.{State};
 ghost use Rattle.siread.specs.declared.keys.Place.{Place as AnyPlace};
@@ -49,8 +49,57 @@ impl TouchedRows {
         }
     }
 
+    /// Notes the changes that lead from the second of the two states to another. After an error what is noted is as it
+    /// was.
+    pub fn note(&mut self, changes: Vec<Change>) -> Result<(), AllocError>
+        ensures noted { OnOk result ((layouts : List Layout) (start before after : State)
+            → AreNoted layouts start before self.old → AreChangesBetween layouts before after changes.items
+            → AreNoted layouts start after self.new) }
+        ensures same { OnErr result ((place : AnyPlace) → noted_at self.new place ≡ noted_at self.old place) }
+    {
+        if changes.len() == 1 {
+            return self.note_only(changes);
+        }
+        self.make_room(changes.as_slice())?;
+        self.put(changes);
+        Ok(())
+    }
+
+    /// The same of one change alone, for which no room has to be made before it is noted.
+    fn note_only(&mut self, changes: Vec<Change>) -> Result<(), AllocError>
+        requires { length changes.items ≡ 1 }
+        ensures noted { OnOk result ((layouts : List Layout) (start before after : State)
+            → AreNoted layouts start before self.old → AreChangesBetween layouts before after changes.items
+            → AreNoted layouts start after self.new) }
+        ensures same { OnErr result ((place : AnyPlace) → noted_at self.new place ≡ noted_at self.old place) }
+    {
+        let mut changes = changes;
+        match changes.pop() {
+            Some(change) => self.note_one(change),
+            None => Ok(()),
+        }
+    }
+
+    /// Notes one change, by one look for its place. Where there is none yet and no memory for it, nothing is noted.
+    fn note_one(&mut self, change: Change) -> Result<(), AllocError>
+        ensures noted { OnOk result ((place : AnyPlace)
+            → noted_at self.new place ≡ noted_after change place (noted_at self.old place)) }
+        ensures same { OnErr result ((place : AnyPlace) → noted_at self.new place ≡ noted_at self.old place) }
+    {
+        let Change {
+            table,
+            key,
+            old,
+            new,
+        } = change;
+        let place = Place { table, key };
+        let rows = self.rows.entry(place)?.or_insert(None);
+        put_rows(rows, old, new);
+        Ok(())
+    }
+
     /// Makes room for changes. What is noted stays as it is, and after an error too.
-    pub fn make_room(&mut self, changes: &[Change]) -> Result<(), AllocError>
+    fn make_room(&mut self, changes: &[Change]) -> Result<(), AllocError>
         ensures same { (place : AnyPlace) → noted_at self.new place ≡ noted_at self.old place }
         ensures room { OnOk result (HasPlaces self.new changes.now) }
     {
@@ -78,7 +127,7 @@ impl TouchedRows {
 
     /// Notes the changes that lead from the second of the two states to another. It takes no memory: room has been
     /// made for them.
-    pub fn put(&mut self, changes: Vec<Change>)
+    fn put(&mut self, changes: Vec<Change>)
         requires room { HasPlaces self.old changes.items }
         ensures { (layouts : List Layout) (start before after : State)
             → AreNoted layouts start before self.old → AreChangesBetween layouts before after changes.items

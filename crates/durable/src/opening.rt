@@ -18,10 +18,9 @@ use crate::writers::Writer;
 use commit::{Engine, require_satisfied};
 use delta::{View, copy_assertions, copy_catalog};
 use journal::{Device, DeviceFault, Journal, Recovered, recover};
-use mvrows::Rows;
 use std::alloc::{AllocError, Global};
 
-/// The tables without their rows, under the same assertions.
+/// The tables without their rows, under the same assertions. Rows that are put in are found by the same indexes.
 #[tactic(auto, using(crate::proofs::Blank::blank_tables))]
 fn without_rows(alloc: Global, view: &View) -> Result<View, AllocError>
     ensures { IfOk result (λ blank. blank ≡ blank_of view.now) }
@@ -29,8 +28,8 @@ fn without_rows(alloc: Global, view: &View) -> Result<View, AllocError>
     let catalog = copy_catalog(alloc, view.catalog())?;
     let assertions = copy_assertions(alloc, view.assertions())?;
     let mut rows = Vec::new(alloc);
-    for _ in 0..view.catalog().len() {
-        rows.push(Rows::new(alloc))?;
+    for table in 0..view.catalog().len() {
+        rows.push(view.rows(table).emptied(alloc)?)?;
     }
     View::load(alloc, catalog, assertions, rows.as_slice())
 }

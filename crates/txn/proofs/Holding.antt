@@ -8,16 +8,15 @@ use Rattle.alone.specs.declared.answers.Reply.{Reply}
 use Rattle.assertion.specs.Declarations.{Declared, layouts_in}
 use Rattle.assertion.specs.Meaning.{State}
 use Rattle.siread.specs.declared.keys.LockKey.{LockKey}
-use Rattle.siread.specs.declared.keys.Place.{Place}
 use Rattle.table.specs.Rows.{Layout}
-use Rattle.alone.specs.States.{row_in, IsState}
+use Rattle.alone.specs.States.{IsState}
 use Rattle.alone.specs.Modes.{Immediates}
 use Rattle.alone.specs.declared.statements.ResolvedStatement.{ResolvedStatement}
 use Rattle.alone.proofs.ReadOnly.{one_more}
 use Rattle.alone.specs.Alone.{Run, Standing, Step, joined_runs, ran, step_alone}
 use Rattle.alone.specs.Resolve.{is_read_only}
 use Rattle.delta.specs.Views.{ViewState}
-use Rattle.changes.specs.Nets.{AreChangesBetween, AreNoted, IsNoted, Noted, noted_at}
+use Rattle.changes.specs.Nets.{AreChangesBetween, AreNoted, Noted}
 use Rattle.txn.specs.declared.steps.StepResult.{StepResult}
 use Rattle.txn.specs.Held.{IsHeld}
 use Rattle.txn.specs.Steps.{IsDone, IsOf, left_by, rows_left, standing_with}
@@ -57,13 +56,6 @@ long_left : (modes : Immediates) (new : Option Immediates) (declared : Declared)
 long_left modes None declared e h = e
 long_left modes (Some after) declared e h = h
 
--- what is noted is noted still where there is more room
-pub noted_room : (layouts : List Layout) (start now : State) (old new : Noted) → ((place : Place) → noted_at new place ≡ noted_at old place)
-    → AreNoted layouts start now old → AreNoted layouts start now new
-noted_room layouts start now old new same h = record {
-  each = λ place. subst (λ o. IsNoted o (row_in layouts start place) (row_in layouts now place)) (sym (same place)) (h.each place);
-}
-
 -- it was done as the step from any start whose difference is noted
 abbrev IsDoneFrom : ViewState → Immediates → Noted → ResolvedStatement → StepResult → Type 0
 IsDoneFrom own modes touched s d = (start : State) → IsState (layouts_in own.declared) start → AreNoted (layouts_in own.declared) start own.state touched
@@ -81,16 +73,15 @@ module _ (t : OpenTransaction) (own : ViewState) (modes : Immediates) (s : Resol
   pub reply_from : (step_of t s).reply ≡ d.reply
   reply_from = sym (ap (λ (p : Step). p.reply) (step_is t own modes s h)) ∙ done_from.reply
 
-pub held_after : (t : OpenTransaction) (own : ViewState) (modes : Immediates) (touched room more : Noted) (reads all : List LockKey) (s : ResolvedStatement) (d : StepResult) → InParts
+pub held_after : (t : OpenTransaction) (own : ViewState) (modes : Immediates) (touched more : Noted) (reads all : List LockKey) (s : ResolvedStatement) (d : StepResult) → InParts
     → IsHeld t own modes touched reads → IsState (layouts_in t.declared) t.start
     → IsDoneFrom own modes touched s d → IsOf own.declared d
     → AreChangesBetween (layouts_in own.declared) own.state (left_by (standing_with own modes) d).view d.changes.items
-    → ((place : Place) → noted_at room place ≡ noted_at touched place)
-    → ((layouts : List Layout) (start before after : State) → AreNoted layouts start before room → AreChangesBetween layouts before after d.changes.items → AreNoted layouts start after more)
+    → ((layouts : List Layout) (start before after : State) → AreNoted layouts start before touched → AreChangesBetween layouts before after d.changes.items → AreNoted layouts start after more)
     → all ≡ reads ++ d.reads.items
     → (t.read_only ≡ true → is_read_only s ≡ true)
     → IsHeld (with_statement t s) (unwrap_or d.view own) (unwrap_or d.modes modes) more all
-held_after t own modes touched room more reads all s d parts h fit does of between same put read may =
+held_after t own modes touched more reads all s d parts h fit does of between put read may =
     let done : IsDone (standing_with own modes) (step_alone own.declared t.start (standing_with own modes) s) d = done_from t own modes s d h fit does in
     let step : step_alone own.declared t.start (standing_with own modes) s ≡ step_of t s = step_is t own modes s h in
     let after : standing_of (with_statement t s) ≡ left_by (standing_with own modes) d = final_with t own modes s parts ∙ sym (ap (λ (p : Step). p.after) step) ∙ done.after in
@@ -101,7 +92,7 @@ held_after t own modes touched room more reads all s d parts h fit does of betwe
       modes_are = sym (ap (λ (p : Standing). p.modes) after);
       long = long_left modes d.modes t.declared h.long (subst (λ (declared : Declared). HoldsOf (λ (after : Immediates). length after ≡ length declared.assertions) d.modes) (ap (λ (o : ViewState). o.declared) h.own_is) of.modes);
       noted = subst (λ (state : State). AreNoted (layouts_in t.declared) t.start state more) (sym (view_left own d.view))
-          (put (layouts_in t.declared) t.start own.state (rows_left own.state d.view) (noted_room (layouts_in t.declared) t.start own.state touched room same h.noted)
+          (put (layouts_in t.declared) t.start own.state (rows_left own.state d.view) h.noted
           (subst (λ (declared : Declared). AreChangesBetween (layouts_in declared) own.state (rows_left own.state d.view) d.changes.items) (ap (λ (o : ViewState). o.declared) h.own_is) between));
       reads_are = read ∙ ap (λ ks. ks ++ d.reads.items) h.reads_are ∙ ap (λ ks. (run_of t).reads ++ ks) (sym done.reads ∙ ap (λ (p : Step). p.reads) step) ∙ sym (reads_with t own modes s parts);
       no_changes = λ only. one_more t.trace s (h.no_changes only) (may only);

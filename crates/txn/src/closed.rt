@@ -1,6 +1,6 @@
 //! Transactions that go to COMMIT.
 
-ghost use Rattle.std.specs.Prelude.{◌≡◌, All, IfOk};
+ghost use Rattle.std.specs.Prelude.{◌≡◌, All, unwrap_or, IfOk};
 ghost use Rattle.std.specs.Option.{option_copied};
 ghost use Rattle.assertion.specs.Declarations.{layouts_in};
 ghost use Rattle.delta.specs.Views.{IsFitting};
@@ -25,8 +25,8 @@ pub struct ClosedTransaction {
     pub(crate) txn: Txn,
     pub(crate) changes: Vec<Change>,
     pub(crate) refused: Option<Refusal>,
-    /// What its statements read, and behind that what the check of COMMIT read.
-    pub(crate) keys: Vec<LockKey>,
+    /// What its statements read, and behind that what the check of COMMIT read; none where this read nothing.
+    pub(crate) keys: Option<Items<LockKey>>,
 }
 
 /// What stays of a transaction that is committed: its statements, what it has read, and its net change.
@@ -42,7 +42,8 @@ impl Model for ClosedTransaction {
     ghost use Rattle.table.specs.contracts.exprs.Expr as expr_type;
     ghost use Rattle.std.specs.Coded.{codes};
     ghost use Rattle.txn.specs.Held.{IsClosed};
-    ghost use Rattle.txn.specs.Transactions.{OpenTransaction};
+    ghost use Rattle.std.specs.Prelude.{unwrap_or};
+    ghost use Rattle.txn.specs.Transactions.{OpenTransaction, run_of};
 
     ghost Value = { OpenTransaction };
 
@@ -50,7 +51,7 @@ impl Model for ClosedTransaction {
 
     ghost view = { λ c. c.txn };
 
-    ghost invariant = { λ c. IsClosed c.txn c.changes.items c.refused c.keys.items };
+    ghost invariant = { λ c. IsClosed c.txn c.changes.items c.refused (unwrap_or c.keys (run_of c.txn).reads) };
 }
 
 /// A transaction that could not be closed, since memory ran out.
@@ -81,7 +82,10 @@ impl ClosedTransaction {
     pub fn reads(&self) -> &[LockKey]
         ensures { result.now ≡ keys_of self.now }
     {
-        self.keys.as_slice()
+        match &self.keys {
+            Some(keys) => keys.as_slice(),
+            None => self.txn.reads(),
+        }
     }
 
     /// The refusal by the first assertion, in the order of creation, that is false on its own view. It takes no memory.
@@ -114,9 +118,10 @@ impl ClosedTransaction {
             refused: _,
             keys,
         } = self;
+        let (trace, reads) = txn.into_trace_and_reads();
         Parts {
-            trace: Items::from_vec(txn.into_trace()),
-            reads: Items::from_vec(keys),
+            trace: Items::from_vec(trace),
+            reads: all_or(keys, reads),
             changes: Items::from_vec(changes),
         }
     }
@@ -125,11 +130,21 @@ impl ClosedTransaction {
     pub fn copy_parts(&self) -> Result<Parts, AllocError>
         ensures { IfOk result (AreParts self.now) }
     {
-        let alloc = *self.keys.allocator();
+        let alloc = *self.changes.allocator();
         Ok(Parts {
             trace: copy_trace(alloc, self.txn.trace())?,
             reads: copy_reads(alloc, self.reads())?,
             changes: copy_changes(alloc, self.changes())?,
         })
+    }
+}
+
+/// All keys, where there are such, else these.
+fn all_or(all: Option<Items<LockKey>>, keys: Vec<LockKey>) -> Items<LockKey>
+    ensures { result ≡ unwrap_or all keys.items }
+{
+    match all {
+        Some(all) => all,
+        None => Items::from_vec(keys),
     }
 }

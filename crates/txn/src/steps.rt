@@ -1,6 +1,6 @@
 //! A statement of a transaction alone.
 
-ghost use Rattle.std.specs.Prelude.{◌≡◌, ◌≢◌, ◌<◌, ◌++◌, [], ◌∷◌, length, true, IfOk, OnErr, OnOk, Ok, Err, None, Some};
+ghost use Rattle.std.specs.Prelude.{◌≡◌, ◌≢◌, ◌<◌, ◌++◌, [], ◌∷◌, length, true, unwrap_or, IfOk, OnErr, OnOk, Ok, Err, None, Some};
 ghost use Rattle.value.specs.Ordered.{HoldsOf};
 ghost use Rattle.value.specs.declared.refusals.Refusal.TheVariants.{NoMemory};
 ghost use Rattle.assertion.specs.Declarations.{layouts_in};
@@ -26,7 +26,7 @@ use crate::effects::{
 use crate::resolutions::unless_memory;
 use alone::{Modes, Reply, ResolvedStatement};
 use assertcheck::{Delete, NewRow, Select, Update};
-use changes::{TableFilter, TouchedRows, checks_read, real_changes, selected_rows, tables_read};
+use changes::{TouchedRows, checks_read, push_checks, real_changes, selected_rows, tables_read};
 use delta::View;
 use siread::{LockKey, Place};
 use sqlite_items::Items;
@@ -124,11 +124,11 @@ fn refuse_unless_memory(refusal: Refusal, reads: Vec<LockKey>) -> Result<StepRes
     Ok(refuse_with(refusal, reads))
 }
 
-/// One key.
+/// One key, with room for two more, which the check of a change by groups reads.
 fn list_one(alloc: Global, key: LockKey) -> Result<Vec<LockKey>, AllocError>
     ensures { IfOk result (λ keys. keys.items ≡ key ∷ []) }
 {
-    let mut keys = Vec::with_capacity(alloc, 1)?;
+    let mut keys = Vec::with_capacity(alloc, 3)?;
     keys.push(key)?;
     Ok(keys)
 }
@@ -239,13 +239,11 @@ fn put_in(
         (left_by (standing_with own.now modes.now) done).view done.changes.items) }
 {
     let Effect { reply, changes } = effect;
-    let alloc = *reads.allocator();
     let mut reads = reads;
     recall_order(own);
     let after = own.after(changes.as_slice())?;
     let real = real_changes(changes);
-    let checked = checks_read(alloc, &after, modes, real.as_slice())?;
-    append(&mut reads, checked)?;
+    push_checks(&mut reads, &after, modes, real.as_slice())?;
     let violated = find_violation(&after, modes)?;
     Ok(leave_rows_unless(violated, reply, after, real, reads))
 }
@@ -422,8 +420,23 @@ pub fn append(keys: &mut Vec<LockKey>, more: Vec<LockKey>) -> Result<(), AllocEr
     Ok(())
 }
 
+/// Copies of these keys, and then those; none where those are none.
+pub fn copy_unless_none(
+    alloc: Global,
+    keys: &[LockKey],
+    more: Vec<LockKey>,
+) -> Result<Option<Items<LockKey>>, AllocError>
+    ensures { IfOk result (λ both. unwrap_or both keys.now ≡ keys.now ++ more.items) }
+{
+    if more.is_empty() {
+        return Ok(None);
+    }
+    let both = copy_with(alloc, keys, more)?;
+    Ok(Some(Items::from_vec(both)))
+}
+
 /// Copies of these keys, and then those.
-pub fn copy_with(
+fn copy_with(
     alloc: Global,
     keys: &[LockKey],
     more: Vec<LockKey>,

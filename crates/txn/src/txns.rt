@@ -1,9 +1,11 @@
 //! Open transactions.
 
-ghost use Rattle.std.specs.Prelude.{◌≡◌, ◌≢◌, ◌<◌, ◌++◌, true, [], unwrap_or, vec_capacity, vec_len, IfOk, IfErr, OnErr, OnOk, Ok, Err};
+ghost use Rattle.std.specs.Prelude.{◌≡◌, ◌≢◌, ◌<◌, ◌++◌, true, List, [], unwrap_or, vec_capacity, vec_len, IfOk, IfErr, OnErr, OnOk, Ok, Err};
 ghost use Rattle.value.specs.declared.refusals.Refusal.TheVariants.{NoMemory};
 ghost use Rattle.siread.specs.declared.keys.Place.{Place as AnyPlace};
-ghost use Rattle.changes.specs.Nets.{HasPlaces, noted_at};
+ghost use Rattle.changes.specs.Nets.{AreChangesBetween, AreNoted, noted_at};
+ghost use Rattle.assertion.specs.Meaning.{State};
+ghost use Rattle.table.specs.Rows.{Layout};
 ghost use Rattle.alone.specs.Modes.{assertion_of};
 ghost use Rattle.alone.specs.Resolve.{is_read_only, resolution_of};
 ghost use Rattle.txn.specs.Held.{IsClosed};
@@ -15,13 +17,14 @@ use crate::checks::{find_violation, list_false, verdict_on};
 use crate::closed::{CloseFailure, ClosedTransaction};
 use crate::effects::recall_order;
 use crate::resolutions::resolve;
-use crate::steps::{StepResult, append, copy_with, step};
+use crate::steps::{StepResult, append, copy_unless_none, step};
 use alone::{
     Modes, Reply, ResolvedStatement, read_only_statements_change_nothing, runs_are_joined,
 };
 use changes::{TouchedRows, checks_read};
 use delta::View;
 use siread::LockKey;
+use sqlite_items::Items;
 use std::alloc::{AllocError, Global};
 use std::marker::Model;
 use syntax::Statement;
@@ -48,7 +51,8 @@ pub struct Txn {
 struct CloseCheck {
     changes: Vec<Change>,
     refused: Option<Refusal>,
-    keys: Vec<LockKey>,
+    /// None where that is what its statements read.
+    keys: Option<Items<LockKey>>,
 }
 
 impl Model for Txn {
@@ -200,18 +204,17 @@ impl Txn {
             changes,
             reads,
         } = done;
-        if let Err(_) = make_room(
+        if let Err(_) = note(
             &mut self.touched,
             &mut self.trace,
             &mut self.reads,
-            changes.as_slice(),
+            changes,
             reads,
         ) {
-            return drop_and_refuse((statement, reply, view, modes, changes));
+            return drop_and_refuse((statement, reply, view, modes));
         }
         settle(&mut self.own, view);
         settle_modes(&mut self.modes, modes);
-        self.touched.put(changes);
         self.trace.push_reserved(statement);
         reply
     }
@@ -240,27 +243,39 @@ impl Txn {
         ensures closed { IfOk result (λ closed. closed ≡ self) }
         ensures back { IfErr result (λ fault. fault.txn ≡ self) }
     {
-        match self.prepare_close() {
+        let mut txn = self;
+        match txn.prepare_close() {
             Ok(
                 CloseCheck {
                     changes,
                     refused,
                     keys,
                 },
-            ) => Ok(ClosedTransaction {
-                txn: self,
-                changes,
-                refused,
-                keys,
-            }),
-            Err(_) => Err(CloseFailure { txn: self }),
+            ) => {
+                txn.trim();
+                Ok(ClosedTransaction {
+                    txn,
+                    changes,
+                    refused,
+                    keys,
+                })
+            }
+            Err(_) => Err(CloseFailure { txn }),
         }
+    }
+
+    /// Gives back the room that is left behind what it has read, since a commit keeps that.
+    fn trim(&mut self)
+        ensures { self.new ≡ self.old }
+    {
+        self.reads.shrink_to_fit();
     }
 
     /// What COMMIT is answered by.
     fn prepare_close(&self) -> Result<CloseCheck, AllocError>
         ensures { IfOk result (λ closing.
-            IsClosed self.now closing.changes.items closing.refused closing.keys.items) }
+            IsClosed self.now closing.changes.items closing.refused
+            (unwrap_or closing.keys (run_of self.now).reads)) }
     {
         let alloc = *self.trace.allocator();
         recall_order(&self.start);
@@ -271,7 +286,7 @@ impl Txn {
         // Of the others the statements have read what their checks read.
         let deferred = self.modes.opposite(alloc)?;
         let checked = checks_read(alloc, &self.own, &deferred, changes.as_slice())?;
-        let keys = copy_with(alloc, self.reads.as_slice(), checked)?;
+        let keys = copy_unless_none(alloc, self.reads.as_slice(), checked)?;
         Ok(CloseCheck {
             changes,
             refused,
@@ -279,9 +294,10 @@ impl Txn {
         })
     }
 
-    /// Its statements alone, of a transaction that is committed. It takes no memory.
-    pub(crate) fn into_trace(self) -> Vec<ResolvedStatement>
-        ensures { result.items ≡ self.trace }
+    /// Its statements and what they have read, of a transaction that is committed. It takes no memory.
+    pub(crate) fn into_trace_and_reads(self) -> (Vec<ResolvedStatement>, Vec<LockKey>)
+        ensures trace { result.0.items ≡ self.trace }
+        ensures reads { result.1.items ≡ (run_of self).reads }
     {
         let Txn {
             begin_number: _,
@@ -292,9 +308,9 @@ impl Txn {
             modes: _,
             trace,
             touched: _,
-            reads: _,
+            reads,
         } = self;
-        trace
+        (trace, reads)
     }
 
     /// Ends the transaction, and nothing of it is kept but its own view of the tables. It takes no memory.
@@ -323,30 +339,36 @@ fn drop_and_refuse<T: Drop>(_made: T) -> Result<Reply, Refusal>
     Err(Refusal::NoMemory)
 }
 
-/// Notes what was read, and makes room for one more statement and its changes. After an error there may be room for
-/// some of them.
-fn make_room(
+/// Notes what was read and what was changed, and makes room for one more statement. After an error nothing is noted,
+/// and there may be room.
+fn note(
     touched: &mut TouchedRows,
     trace: &mut Vec<ResolvedStatement>,
     reads: &mut Vec<LockKey>,
-    changes: &[Change],
+    changes: Vec<Change>,
     more: Vec<LockKey>,
 ) -> Result<(), AllocError>
-    ensures noted { (place : AnyPlace) → noted_at touched.new place ≡ noted_at touched.old place }
-    ensures places { OnOk result (HasPlaces touched.new changes.now) }
+    ensures noted { OnOk result ((layouts : List Layout) (start before after : State)
+        → AreNoted layouts start before touched.old → AreChangesBetween layouts before after changes.items
+        → AreNoted layouts start after touched.new) }
+    ensures unnoted { OnErr result ((place : AnyPlace) → noted_at touched.new place ≡ noted_at touched.old place) }
     ensures trace { trace.new.items ≡ trace.old.items }
     ensures room { OnOk result (vec_len trace.new < vec_capacity trace.new) }
     ensures read { OnOk result (reads.new.items ≡ reads.old.items ++ more.items) }
     ensures unread { OnErr result (reads.new.items ≡ reads.old.items) }
 {
-    touched.make_room(changes)?;
     // A commit keeps the trace, and most transactions have few statements.
     if trace.is_empty() {
         trace.reserve_exact(1)?;
     } else {
         trace.reserve(1)?;
     }
+    let before = reads.len();
     append(reads, more)?;
+    if let Err(error) = touched.note(changes) {
+        reads.truncate(before);
+        return Err(error);
+    }
     Ok(())
 }
 

@@ -2,6 +2,7 @@ use Rattle.std.proofs.Common.{◌≡◌, List, ap, sym, refl, ◌∙◌, subst, 
 use Rattle.table.specs.declared.rows.Change.{Change}
 use Rattle.assertion.specs.Declarations.{layouts_in}
 use Rattle.assertion.specs.Changes.{AreChangesOf, state_after_all}
+use Rattle.siread.specs.declared.keys.LockKey.{LockKey}
 use Rattle.alone.specs.Modes.{immediate_ones}
 use Rattle.alone.specs.Checks.{checks_read}
 use Rattle.alone.specs.States.{net_change, IsPut, IsState}
@@ -27,15 +28,21 @@ after_is c =
 net_is : (c : goal.After-leave_rows_unless) → c.real_changes-real.result.items ≡ net_change (layouts_in c.args.own.now.declared) c.args.own.now.state (state_after_all (layouts_in c.args.own.now.declared) c.args.effect.changes.items c.args.own.now.state)
 net_is c = c.real_changes-real.ensures.real ∙ net_is_real (layouts_in c.args.own.now.declared) c.args.own.now.state c.recall_order.ensures c.args.effect.changes.items c.requires.changes.due
 
+-- what the check reads, over some changes
+checked : goal.After-leave_rows_unless → List Change → List LockKey
+checked c changes =
+    checks_read (layouts_in c.args.own.now.declared) (state_after_all (layouts_in c.args.own.now.declared) c.args.effect.changes.items c.args.own.now.state) (immediate_ones c.args.modes.now c.args.own.now.declared.assertions) changes
+
 pub returns-clause-done : goal.returns-clause-done
+unfolding checked
 returns-clause-done c = λ read is.
     rows_done c.args.own.now c.args.modes.now read (record { reply = c.args.effect.reply; changes = c.args.effect.changes.items }) c.in_ok-after.after _ c.in_ok-violated.violated c.leave_rows_unless.result
     (after_is c)
     refl
     (rw (c.in_ok-after.ensures, c.as_slice.ensures.value) at c.in_ok-violated.ensures.first)
-    (c.leave_rows_unless.ensures.reads ∙ c.in_ok-append.ensures.both ∙ ap (λ xs. xs ++ c.in_ok-checked.checked.items) is
-    ∙ ap (λ ks. read ∷ ks) ((rw (c.as_slice-2.ensures.value, c.in_ok-after.ensures, c.as_slice.ensures.value) at c.in_ok-checked.ensures)
-    ∙ ap (checks_read (layouts_in c.args.own.now.declared) (state_after_all (layouts_in c.args.own.now.declared) c.args.effect.changes.items c.args.own.now.state) (immediate_ones c.args.modes.now c.args.own.now.declared.assertions)) (net_is c)))
+    (c.leave_rows_unless.ensures.reads ∙ (rw (c.as_slice-2.ensures.value, c.in_ok-after.ensures, c.as_slice.ensures.value) at c.in_ok-push_checks.ensures)
+    ∙ ap (λ ks. ks ++ checked c c.real_changes-real.result.items) is
+    ∙ ap (λ changes. read ∷ checked c changes) (net_is c))
     c.leave_rows_unless.ensures.left
 
 pub returns-clause-changes : goal.returns-clause-changes

@@ -1,5 +1,5 @@
 use Rattle.std.proofs.Common.{◌≡◌, Option, Some, None, refl, sym, ap, ◌∙◌, subst}
-use Rattle.std.specs.Prelude.{IsSome}
+use Rattle.std.specs.Prelude.{IsSome, unwrap_or}
 use Rattle.siread.specs.Keys.{place_of}
 use Rattle.changes.specs.declared.touched.RowsThere.{RowsThere}
 use Rattle.changes.specs.Nets.{Noted, entry_at, noted_after, noted_at}
@@ -19,6 +19,6 @@ returns-in_default-clause-noted c = λ place. absurd
 pub returns-clause-noted : goal.returns-clause-noted
 returns-clause-noted c = λ place.
     let put = c.put_rows.new.rows in
-    change_put c.self.inside.rows.entries (c.get_mut.follows.lender put).entries c.args.change c.in-Some.rows.now put (sym c.in-Some.ensures.value) c.put_rows.ensures
+    change_put c.self.inside.rows.entries (c.get_mut.follows.lender put).entries c.args.change c.in-Some.rows.now put (ap (λ (o : Option (Option RowsThere)). unwrap_or o None) (sym c.in-Some.ensures.value)) c.put_rows.ensures
     ((c.get_mut.follows.holds put).3 (subst IsSome c.in-Some.ensures.value refl)).0 place
     ∙ ap (λ (entries : Noted). noted_after c.args.change place (noted_at entries place)) c.self.view_is

@@ -9,10 +9,10 @@ use Rattle.txn.proofs.txns.Txn.run.Goals as goal
 
 pub invariant_of-self-2 : goal.invariant_of-self-2
 invariant_of-self-2 c =
-    rw (c.settle.ensures, c.settle_modes.ensures, c.push_reserved.ensures.items, c.make_room.ensures.trace)
+    rw (c.settle.ensures, c.settle_modes.ensures, c.push_reserved.ensures.items, c.note.ensures.trace)
     (held_after (txn.the_view c.self.inside)
-    c.self.inside.own c.self.inside.modes c.self.inside.touched c.make_room.new.touched c.put.new.self c.self.inside.reads.items c.make_room.new.reads.items c.args.statement c.in-Ok.done c.runs_are_joined.ensures c.self.invariant
-    c.recall_order.ensures c.in-Ok.ensures.done c.in-Ok.ensures.of c.in-Ok.ensures.changes c.make_room.ensures.noted c.put.ensures c.in_default.ensures.read
+    c.self.inside.own c.self.inside.modes c.self.inside.touched c.note.new.touched c.self.inside.reads.items c.note.new.reads.items c.args.statement c.in-Ok.done c.runs_are_joined.ensures c.self.invariant
+    c.recall_order.ensures c.in-Ok.ensures.done c.in-Ok.ensures.of c.in-Ok.ensures.changes c.in_default.ensures.noted c.in_default.ensures.read
     (subst (λ (t : OpenTransaction). t.read_only ≡ true → is_read_only c.args.statement ≡ true) (sym c.self.view_is) c.requires.may_run))
 
 pub returns-clause-replied : goal.returns-clause-replied

@@ -2,7 +2,7 @@ use Rattle.std.proofs.Common.{◌≡◌, ◌++◌, drop}
 use Rattle.assertion.specs.Declarations.{layouts_in}
 use Rattle.alone.specs.Modes.{immediate_ones}
 use Rattle.alone.specs.Checks.{checks_read}
-use Rattle.changes.proofs.checks.checks_read.Given as goal
+use Rattle.changes.proofs.checks.push_checks.Given as goal
 
 -- the keys so far, and those of the assertions that are left
 abbrev pub invariant-loop-place : goal.invariant-loop-place
@@ -11,4 +11,4 @@ invariant-loop-place l =
     l.keys.items
     ++ checks_read layouts l.view.state (immediate_ones (drop l.place l.meant) (drop l.place l.view.declared.assertions))
     l.changes
-    ≡ checks_read layouts l.view.state (immediate_ones l.meant l.view.declared.assertions) l.changes
+    ≡ l.initial.keys.items ++ checks_read layouts l.view.state (immediate_ones l.meant l.view.declared.assertions) l.changes

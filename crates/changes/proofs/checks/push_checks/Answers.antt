@@ -1,7 +1,7 @@
 use Rattle.std.proofs.Common.{true, add-one}
 use Rattle.assertion.specs.Declarations.{layouts_in}
 use Rattle.changes.proofs.KeyLists.{one_more}
-use Rattle.changes.proofs.checks.checks_read.Goals as goal
+use Rattle.changes.proofs.checks.push_checks.Goals as goal
 
 pub loop-place-preserved : goal.loop-place-preserved
 loop-place-preserved c =
