@@ -71,7 +71,7 @@ def made(fuzz: types.ModuleType, seed: int, stage: str) -> bytes:
     rng = random.Random(seed)
     defs = fuzz.Maker(rng, stage).defs()
     if rng.random() < 0.2:
-        spoilt: bytes = fuzz.mutated(rng, defs)
+        spoilt: bytes = fuzz.mutated(rng, defs, stage)
         return spoilt
     text: str = defs
     return text.encode()
@@ -85,9 +85,16 @@ def counted(rows: Sequence[Sequence[object]], column: int | None, is_link: bool)
     return len(values), len(set(values))
 
 
-def name_of(function: str, column: int | None, table: Part) -> str:
+def column_of(function: Part) -> int | None:
+    """The column that a set function is of; None for all rows."""
+    return None if function[1] is None else function[1][1]
+
+
+def name_of(function: Part, table: Part) -> str:
     """A set function as the program shows it."""
-    return "COUNT(*)" if column is None else f"{function}({table.columns[column][0]})"
+    name, distinct = function[0], "DISTINCT " if function[2] and function[0] in ("COUNT", "SUM") else ""
+    column = column_of(function)
+    return "COUNT(*)" if column is None else f"{name}({distinct}{table.columns[column][0]})"
 
 
 def columns_in(part: Part) -> Iterator[int]:
@@ -99,42 +106,52 @@ def columns_in(part: Part) -> Iterator[int]:
             yield from columns_in(inner)
 
 
-def linked_by(assertion: Part, sub: Part, state: State, M: types.ModuleType) -> Kept:
+def beside_link(query: Part) -> list[Part]:
+    """The parts of a linked query's WHERE but for the equality that links it."""
+    parts = list(query.where[1]) if query.where[0] == "and" else [query.where]
+    linked = {query.link[0], query.source.width + query.link[1]}
+    for place, part in enumerate(parts):
+        if part[:2] == ("compare", "=") and part[2][0] == part[3][0] == "column" and {part[2][1], part[3][1]} == linked:
+            return parts[:place] + parts[place + 1:]
+    raise ValueError("a query without its link")
+
+
+def linked_by(assertion: Part, query: Part, state: State, M: types.ModuleType) -> Kept:
     """How the totals of a linked query are maintained."""
-    child = sub.child
-    column = child.key if sub.link is None else sub.link
-    function, of = sub.aggregate or ("COUNT", None)
-    head = name_of(function, of, child), child.name, child.columns[column][0]
-    if any(one >= len(child.columns) for one in columns_in(sub.parts)):
-        beside = [len(M.linked_rows(sub, row, assertion.table, state)) for row in M.rows_of(state, assertion.table)]
+    child, column = query.source.tables[0], query.link[0]
+    head = name_of(query.function or ("COUNT", None, False), child), child.name, child.columns[column][0]
+    parts = beside_link(query)
+    if any(one >= query.source.width for one in columns_in(parts)):
+        around = M.rows_of(state, assertion.source.tables[0])
+        beside = [sum(M.truth(query.where, own + row) is True for own in M.rows_of(state, child)) for row in around]
         upkeep = "none" if column == child.key else "rows"
         return Kept(*head, upkeep, sum(beside), sum(1 for one in beside if one))
-    rows = [row for row in M.rows_of(state, child)
-        if M.t_and([M.truth(part, tuple(row)) for part in sub.parts]) is True]
+    rows = [row for row in M.rows_of(state, child) if M.t_and([M.truth(part, row) for part in parts]) is True]
     return Kept(*head, "groups", *counted(rows, column, True))
 
 
 def kept_by(assertion: Part, state: State, M: types.ModuleType) -> Iterator[Kept]:
     """How the totals of each set function are maintained."""
     if assertion.form == "R":
-        for sub in assertion.subs:
-            yield linked_by(assertion, sub, state, M)
+        for query in assertion.slots:
+            yield linked_by(assertion, query, state, M)
     elif assertion.form == "G":
-        table, group = assertion.table, assertion.group
+        table, group = assertion.source.tables[0], assertion.groups[0]
         rows = M.kept(M.rows_of(state, table), assertion.where)
-        for function, column in assertion.aggregates or [("COUNT", None)]:
+        for function in [query.function for query in assertion.slots] or [("COUNT", None, False)]:
             counts = counted(rows, group, False)
-            yield Kept(name_of(function, column, table), table.name, table.columns[group][0], "groups", *counts)
+            yield Kept(name_of(function, table), table.name, table.columns[group][0], "groups", *counts)
     else:
-        for table, where, (function, column) in assertion.subs:
-            rows = M.kept(M.rows_of(state, table), where)
-            yield Kept(name_of(function, column, table), table.name, None, "groups", *counted(rows, None, False))
+        for query in assertion.slots:
+            table = query.source.tables[0]
+            rows = M.kept(M.rows_of(state, table), query.where)
+            yield Kept(name_of(query.function, table), table.name, None, "groups", *counted(rows, None, False))
 
 
 def whole_of(assertion: Part, kept: Sequence[Kept], state: State, M: types.ModuleType) -> tuple[int, int]:
     """The rows and groups of an assertion as a whole."""
     if assertion.form == "R":
-        rows = len(M.rows_of(state, assertion.table))
+        rows = len(M.rows_of(state, assertion.source.tables[0]))
         return rows, rows
     if assertion.form == "G":
         return kept[0].rows, kept[0].groups

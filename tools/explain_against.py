@@ -248,18 +248,18 @@ class Story:
         if a.form == 'S':
             lines.append('  would be false as a whole')
         elif a.form == 'G':
-            lines.append(f'  would be false at {self.column(a.table.name, a.group)} {value_text(root)}')
+            lines.append(f'  would be false at {self.group(a)} {value_text(root)}')
         else:
-            row = state[a.table.name][root]
-            lines.append(f'  would be false at row {value_text(root)} of {a.table.name}: {row_text(row)}')
+            table = a.source.tables[0]
+            row = state[table.name][root]
+            lines.append(f'  would be false at row {value_text(root)} of {table.name}: {row_text(row)}')
         parts = self.parts(a, state, root)
         for slot, part in enumerate(parts):
             named = part.name + ('(*)' if part.column is None else f'({part.column})')
             lines.append(f'    {named} of {part.scope} would be {value_text(part.given)}{demand(a, slot)}')
         lists = [(part.linked, part.rows) for part in parts]
         if a.form == 'G':
-            rows = [r for r in M.kept(M.rows_of(state, a.table), a.where) if r[a.group] == root]
-            lists = [(self.linked(a.table.name, a.group, root), rows)]
+            lists = [(self.linked(a.source.tables[0].name, a.groups[0], root), self.members(a, state, root))]
         for linked, rows in lists:
             lines.append(f'    rows of {linked} that count: {len(rows)}')
             lines += cut(['      ' + row_text(r) for r in rows], '      ')
@@ -272,26 +272,39 @@ class Story:
         """The set function of each slot."""
         out = []
         if a.form == 'S':
-            for table, where, function in a.subs:
-                rows = M.kept(M.rows_of(state, table), where)
-                out.append(self.function(table, function, table.name, table.name, rows))
+            for query in a.slots:
+                table = query.source.tables[0]
+                rows = M.kept(M.rows_of(state, table), query.where)
+                out.append(self.function(table, query.function, table.name, table.name, rows))
         elif a.form == 'G':
-            rows = [r for r in M.kept(M.rows_of(state, a.table), a.where) if r[a.group] == root]
-            for function in a.aggregates:
-                scope = f'{self.column(a.table.name, a.group)} {value_text(root)}'
-                out.append(self.function(a.table, function, scope, '', rows))
+            rows = self.members(a, state, root)
+            for query in a.slots:
+                scope = f'{self.group(a)} {value_text(root)}'
+                out.append(self.function(a.source.tables[0], query.function, scope, '', rows))
         else:
-            for sub in a.subs:
-                rows = M.linked_rows(sub, state[a.table.name][root], a.table, state)
-                linked = self.linked(sub.child.name, sub.link, root)
-                out.append(self.function(sub.child, sub.aggregate or ('COUNT', None), linked, linked, rows))
+            around = state[a.source.tables[0].name][root]
+            for query in a.slots:
+                child = query.source.tables[0]
+                rows = [r for r in M.rows_of(state, child) if M.truth(query.where, r + around) is True]
+                linked = self.linked(child.name, query.link[0], around[query.link[1]])
+                out.append(self.function(child, query.function or ('COUNT', None, False), linked, linked, rows))
         return out
 
-    def function(self, table: Part, function: tuple[str, int | None], scope: str, linked: str,
-                 rows: list[Row]) -> SetFunction:
-        name, place = function
-        column = None if place is None else self.column(table.name, place)
-        return SetFunction(name, column, scope, linked, rows, M.aggregate(name, place, rows))
+    def group(self, a: Part) -> str:
+        """The column of a rule by groups."""
+        return self.column(a.source.tables[0].name, a.groups[0])
+
+    def members(self, a: Part, state: State, root: object) -> list[Row]:
+        """The rows of a group."""
+        rows: list[Row] = M.kept(M.rows_of(state, a.source.tables[0]), a.where)
+        return [row for row in rows if row[a.groups[0]] == root]
+
+    def function(self, table: Part, function: Part, scope: str, linked: str, rows: list[Row]) -> SetFunction:
+        name, expression, distinct = function
+        column = None if expression is None else self.column(table.name, expression[1])
+        if distinct and name in ('COUNT', 'SUM'):
+            column = f'DISTINCT {column}'
+        return SetFunction(name, column, scope, linked, rows, M.aggregate(function, rows))
 
     def overwritten(self, this: Transaction, table: str, key: object, by: int) -> list[Line]:
         other = self.commit(by)

@@ -7,7 +7,7 @@ ghost use Rattle.replay.specs.Texts.{IsUnread};
 ghost use Rattle.replay.specs.Takings.{IsAdmitted, IsReadTo, IsRefused};
 
 use commit::admit_taken;
-use definitions::Definitions;
+use definitions::{Definitions, Taking};
 use delta::View;
 use leaf_parser::Collection;
 use parse::parse_schema_into;
@@ -20,14 +20,14 @@ use value::Refusal;
 #[derive(Drop)]
 struct Intake {
     alloc: Global,
-    made: Result<Definitions, Refusal>,
+    made: Result<Taking, Refusal>,
 }
 
 impl Collection<Definition> for Intake {
     ghost use Rattle.std.specs.Prelude.{◌≡◌};
-    ghost use Rattle.definitions.specs.Taken.{view_of_definitions};
+    ghost use Rattle.definitions.specs.Taken.{taken_of};
 
-    ghost made_of = { λ intake definitions. view_of_definitions definitions ≡ intake.made };
+    ghost made_of = { λ intake definitions. taken_of definitions ≡ intake.made };
 
     /// Want of memory ends the reading, so it is never what is kept.
     #[tactic(auto, using(definitions::proofs::OneMore::one_more))]
@@ -57,10 +57,13 @@ pub fn read_definitions(alloc: Global, defs: &[u8]) -> Result<Result<Definitions
 {
     let before = Intake {
         alloc,
-        made: Ok(Definitions::new(alloc)),
+        made: Ok(Taking::new(alloc)),
     };
     let intake = parse_schema_into(alloc, defs, before)?;
-    Ok(intake.made)
+    match intake.made {
+        Ok(made) => Ok(Ok(made.into_definitions())),
+        Err(refusal) => Ok(Err(refusal)),
+    }
 }
 
 /// The tables that the definitions of a text begin with. Every assertion is satisfied on them, and means what the
@@ -68,7 +71,7 @@ pub fn read_definitions(alloc: Global, defs: &[u8]) -> Result<Result<Definitions
 ///
 /// # Errors
 ///
-/// Why the text is none of its grammar; or the first fault of the definitions, as `Definitions::with` answers it; or
+/// Why the text is none of its grammar; or the first fault of the definitions, as `Taking::with` answers it; or
 /// [`Refusal::FalseAtCreation`] with the first assertion that is false on the loaded rows, and the least root at which
 /// it is. Or [`Refusal::NoMemory`].
 #[tactic(auto, using(crate::proofs::Taking::text_admitted, crate::proofs::Taking::text_refused, crate::proofs::Taking::text_not_admitted))]

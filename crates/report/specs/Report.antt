@@ -144,6 +144,10 @@ answer_line script_line answer = script_line.session ++ codes ": " ++ answer_tex
 abbrev pub left_open_line : List ℕ → List ℕ
 left_open_line session = session ++ codes ": ROLLBACK AT END\n"
 
+-- the line of a COMMIT that is accepted and could not be kept in a journal
+abbrev pub not_kept_line : List ℕ → List ℕ
+not_kept_line session = session ++ codes ": REFUSED 25 58030 IO ERROR\n"
+
 -- the line of a text that was refused whole, by the name of the text
 abbrev pub refusal_line : List ℕ → Refusal → List ℕ
 refusal_line text refusal = text ++ codes ": REFUSED " ++ fault_text false refusal ++ codes "\n"

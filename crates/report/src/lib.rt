@@ -60,6 +60,7 @@
 //! | `22 - assertion` | its attributes exclude each other |
 //! | `23 - READ ONLY` | a write in a transaction that reads only |
 //! | `24 - TOO MANY SESSIONS` | there are as many as the limit |
+//! | `25 58030 IO ERROR` | a COMMIT is accepted, and its journal could not keep it |
 //!
 //! Numbers are decimal, with `-` before a negative one and no leading zero. A *value* is a number, `NULL`, or a text in
 //! quotes with each quote inside it written twice: `'O''HARA'`. A *root* is `ALL` or a value. A *party* is `THIS`, for
@@ -81,4 +82,4 @@ pub use closing::{
     write_commit, write_commits, write_count, write_refused, write_refused_commit,
     write_serial_order, write_verdict,
 };
-pub use lines::{write_fault, write_left_open, write_refusal, write_reply};
+pub use lines::{write_fault, write_left_open, write_not_kept, write_refusal, write_reply};

@@ -3,8 +3,8 @@
 ghost use Rattle.std.specs.Prelude.{◌≡◌, ◌++◌, OnOk, codes, decimal};
 ghost use Rattle.std.specs.Io.KnownBytes.{Appends};
 ghost use Rattle.report.specs.Report.{answer_line, answer_text, asked_name, with_doubled_quotes, excess_text};
-ghost use Rattle.report.specs.Report.{fault_text, further_values, left_open_line, party_text, quoted_byte};
-ghost use Rattle.report.specs.Report.{refusal_line, reply_text, root_text, row_lines, row_text, value_text};
+ghost use Rattle.report.specs.Report.{fault_text, further_values, left_open_line, not_kept_line, party_text};
+ghost use Rattle.report.specs.Report.{quoted_byte, refusal_line, reply_text, root_text, row_lines, row_text, value_text};
 ghost use Rattle.report.specs.Report.{violated_text};
 
 use alone::{Answer, Reply};
@@ -39,6 +39,15 @@ pub fn write_left_open<W: Write>(session: &Text, out: &mut W) -> io::Result<()>
 {
     write_text(session, out)?;
     write_word(": ROLLBACK AT END\n", out)
+}
+
+/// The line of a COMMIT of a session that is accepted, and that its journal could not keep. The transaction is still
+/// open.
+pub fn write_not_kept<W: Write>(session: &Text, out: &mut W) -> io::Result<()>
+    ensures { OnOk result (Appends (W.contents out.old) (W.contents out.new) (not_kept_line session.now)) }
+{
+    write_text(session, out)?;
+    write_word(": REFUSED 25 58030 IO ERROR\n", out)
 }
 
 /// The line of a text that was refused whole, by the name of the text.

@@ -1,5 +1,5 @@
 -- What is answered where something is refused, and which receipts show why.
-use Rattle.std.specs.Prelude.{◌≡◌, ◌≢◌, ◌<◌, ℕ, Bool, true, false, List, [], ◌∷◌, length, map, slice_get, Option, Some, None, Err, Contains, IfSome, ⊤}
+use Rattle.std.specs.Prelude.{◌≡◌, ◌≢◌, ◌<◌, ◌⊎◌, ℕ, Bool, true, false, List, [], ◌∷◌, length, map, slice_get, Option, Some, None, Err, Contains, IfSome, ⊤}
 use Rattle.value.specs.declared.refusals.Party.{Party}
 use Rattle.value.specs.declared.refusals.Party.TheVariants.{This, Number as Numbered}
 use Rattle.value.specs.declared.refusals.Refusal.{Refusal}
@@ -10,6 +10,7 @@ use Rattle.value.specs.declared.truths.Truth.TheVariants.{True, False}
 use Rattle.assertion.specs.declared.assertions.Assertion.{Assertion}
 use Rattle.assertion.specs.declared.forms.Form.{Form}
 use Rattle.assertion.specs.declared.forms.Form.TheVariants.{ByRow, ByGroup, Single}
+use Rattle.table.specs.declared.rows.Change.{Change}
 use Rattle.table.specs.Rows.{names_of}
 use Rattle.assertion.specs.Declarations.{layouts_in}
 use Rattle.delta.specs.Views.{ViewState}
@@ -42,6 +43,13 @@ abbrev pub IsUntaken : (own : Bool) → Refusal → Type 0
 IsUntaken own NoMemory = own ≡ true
 IsUntaken own Stranger = own ≡ false
 IsUntaken own refusal = ⊥
+
+-- Of a COMMIT that was not made nobody was asked to keep anything; or it is accepted and could not be kept, and is
+-- refused as for want of memory.
+abbrev pub IsUnkept : {K : Type 0} → (did_keep : K → K → ℕ → List Change → Bool → Type 0) → (old new : K)
+    → List Change → Refusal → Type 0
+IsUnkept did_keep old new changes refusal =
+    (new ≡ old) ⊎ ((refusal ≡ NoMemory) × ((number : ℕ) × did_keep old new number changes false))
 
 -- the refusals that leave a transaction as it was
 abbrev pub IsGivenBack : Refusal → Type 0

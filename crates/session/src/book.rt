@@ -10,23 +10,23 @@ ghost use Rattle.alone.specs.Modes.{assertion_of};
 ghost use Rattle.alone.specs.Commits.{IsLog};
 ghost use Rattle.alone.specs.Epoch.{state_of};
 ghost use Rattle.conflict.specs.Live.{has_begin_number};
-ghost use Rattle.txn.specs.Transactions.{reads_only, transaction_at_begin, truth_of};
+ghost use Rattle.txn.specs.Transactions.{outcome_of, reads_only, transaction_at_begin, truth_of};
 ghost use Rattle.commit.specs.Cores.{IsCommitAnswer, IsLive, IsSerializable, log_of, newest_tables, record_of};
 ghost use Rattle.commit.specs.Epochs.{IsNextEpoch, next_start, start_of};
 ghost use Rattle.commit.specs.Runs.{empty_core};
 ghost use Rattle.session.specs.Books.{AreReceipts, IsBook, IsFresh, IsFrom, IsKept, IsKnown, IsOf, IsOver, IsOwned, IsTicketed, IsToken, after_begin, after_commit, is_from, is_index, is_kept, is_of, is_own, knows, owns, owns_txn};
-ghost use Rattle.session.specs.Answers.{AreShownBy, IsNotCommitted, IsReason, IsRefusedOver, IsSatisfied, IsStanding, IsUnbegun, after_rollback, only, party_receipt, receipt_at, shown_among, shown_unless, with_ticket};
+ghost use Rattle.session.specs.Answers.{AreShownBy, IsNotCommitted, IsReason, IsRefusedOver, IsSatisfied, IsStanding, IsUnbegun, IsUnkept, after_rollback, only, party_receipt, receipt_at, shown_among, shown_unless, with_ticket};
 
 use crate::items::Item;
 use crate::limits::Limits;
-use crate::making::append;
+use crate::making::{Asker, CopiedTransaction, Unjournaled, append};
 use crate::named::Named;
 use crate::receipts::Receipt;
 use crate::sessions::Session;
 use crate::shelf::{Shelf, Token};
 use crate::tickets::{ClosedTransaction, CommitFault, Ticket, Txn};
 use alone::Record;
-use commit::{CommitFailure, Core, readmit};
+use commit::{CommitFailure, Core, Keeper, readmit};
 use conflict::LiveSnapshot;
 use definitions::NewAssertion;
 use delta::View;
@@ -215,12 +215,66 @@ impl<N: Named> Book<N> {
         ensures shown { IfErr result (λ fault. AreShownBy id epoch fault.shown) }
         ensures same { IfErr result (λ _. session.new ≡ session.old) }
     {
+        let asker = Asker {
+            rt,
+            shelf,
+            id,
+            epoch,
+        };
+        self.commit_kept(&asker, session, closed, &mut Unjournaled)
+    }
+
+    /// COMMIT as [`Book::commit`] answers it, but a commit that is accepted counts only once it is kept. Its tables can
+    /// be begun on from then on, and not before.
+    ///
+    /// # Errors
+    ///
+    /// Those of [`Book::commit`], of which nobody was asked to keep anything; and [`Refusal::NoMemory`] where it is
+    /// accepted and could not be kept, as who keeps the commits can tell: then all is as it was, and the transaction is
+    /// given back.
+    pub fn commit_kept<R: Wait, K: Keeper>(
+        &mut self,
+        asker: &Asker<'_, R>,
+        session: &mut Session<N>,
+        closed: ClosedTransaction<N>,
+        keeper: &mut K,
+    ) -> Result<Receipt<N>, CommitFault<N>>
+        requires shelf { asker.now.shelf.now ≡ N.shelf asker.now.id }
+        requires expected { K.expects keeper.old (length self.old.core.records + 1) }
+        ensures own { IfOk result (λ _. is_own self.old session.old closed asker.now.id asker.now.epoch ≡ true) }
+        ensures answer { IfOk result (λ receipt.
+            IsCommitAnswer self.old.core session.old.name closed.inner (Ok receipt.number)) }
+        ensures whose { IfOk result (λ receipt. (receipt.id ≡ asker.now.id) × (receipt.epoch ≡ asker.now.epoch)) }
+        ensures commit { IfOk result (λ receipt.
+            receipt.token.value.commit ≡ Some (record_of self.old.core session.old.name closed.inner)) }
+        ensures newer { IfOk result (λ receipt. session.old.seen < receipt.number) }
+        ensures after { IfOk result (λ receipt.
+            self.new ≡ after_commit self.old session.old.name closed.inner receipt.token) }
+        ensures seen { IfOk result (λ receipt. session.new ≡ record session.old { seen = receipt.number }) }
+        ensures refused { IfErr result (λ fault.
+            IsNotCommitted self.old (is_own self.old session.old closed asker.now.id asker.now.epoch)
+            session.old.name closed fault.refusal fault.txn fault.shown self.new) }
+        ensures reason { IfErr result (λ fault.
+            IsReason (N.limits asker.now.id).commits session.old.name closed.inner fault.refusal fault.shown) }
+        ensures shown { IfErr result (λ fault. AreShownBy asker.now.id asker.now.epoch fault.shown) }
+        ensures same { IfErr result (λ _. session.new ≡ session.old) }
+        ensures kept { IfOk result (λ receipt.
+            K.did_keep keeper.old keeper.new receipt.number (outcome_of closed.inner).changes true) }
+        ensures unkept { IfErr result (λ fault.
+            IsUnkept K.did_keep keeper.old keeper.new (outcome_of closed.inner).changes fault.refusal) }
+    {
+        let Asker {
+            shelf,
+            id,
+            epoch,
+            ..
+        } = *asker;
         let one = live_snapshot(closed.inner.txn());
         if !self.knows(session, id, epoch) || !self.owns(&closed.ticket, one, id, epoch) {
             return Err(give_back(Refusal::Stranger, closed.reopen()));
         }
         self.settle(shelf, &closed.ticket, one, id, epoch);
-        self.commit_own(rt, shelf, id, epoch, session, closed)
+        self.commit_own(asker, session, closed, keeper)
     }
 
     /// ROLLBACK: the transaction has ended, and nothing of it is kept. Who holds it abandons it, behind the lock. It
@@ -559,24 +613,23 @@ impl<N: Named> Book<N> {
         token_at(self.tokens.as_slice(), self.core.records().len())
     }
 
-    /// COMMIT of a transaction that is known.
-    fn commit_own<R: Wait>(
+    /// COMMIT of a transaction that is known, which counts only once it is kept.
+    fn commit_own<R: Wait, K: Keeper>(
         &mut self,
-        rt: &R,
-        shelf: &Shelf,
-        id: u64,
-        epoch: u64,
+        asker: &Asker<'_, R>,
         session: &mut Session<N>,
         closed: ClosedTransaction<N>,
+        keeper: &mut K,
     ) -> Result<Receipt<N>, CommitFault<N>>
-        requires shelf { shelf.now ≡ N.shelf id }
-        requires id { self.old.id ≡ id }
-        requires epoch { self.old.epoch ≡ epoch }
+        requires shelf { asker.now.shelf.now ≡ N.shelf asker.now.id }
+        requires id { self.old.id ≡ asker.now.id }
+        requires epoch { self.old.epoch ≡ asker.now.epoch }
         requires seen { session.old.seen ≤ length self.old.core.records }
         requires live { IsLive self.old.core closed.inner }
+        requires expected { K.expects keeper.old (length self.old.core.records + 1) }
         ensures answer { IfOk result (λ receipt.
             IsCommitAnswer self.old.core session.old.name closed.inner (Ok receipt.number)) }
-        ensures whose { IfOk result (λ receipt. (receipt.id ≡ id) × (receipt.epoch ≡ epoch)) }
+        ensures whose { IfOk result (λ receipt. (receipt.id ≡ asker.now.id) × (receipt.epoch ≡ asker.now.epoch)) }
         ensures commit { IfOk result (λ receipt.
             receipt.token.value.commit ≡ Some (record_of self.old.core session.old.name closed.inner)) }
         ensures newer { IfOk result (λ receipt. session.old.seen < receipt.number) }
@@ -586,25 +639,32 @@ impl<N: Named> Book<N> {
         ensures refused { IfErr result (λ fault.
             IsNotCommitted self.old true session.old.name closed fault.refusal fault.txn fault.shown self.new) }
         ensures reason { IfErr result (λ fault.
-            IsReason (N.limits id).commits session.old.name closed.inner fault.refusal fault.shown) }
-        ensures shown { IfErr result (λ fault. AreShownBy id epoch fault.shown) }
+            IsReason (N.limits asker.now.id).commits session.old.name closed.inner fault.refusal fault.shown) }
+        ensures shown { IfErr result (λ fault. AreShownBy asker.now.id asker.now.epoch fault.shown) }
         ensures same { IfErr result (λ _. session.new ≡ session.old) }
+        ensures kept { IfOk result (λ receipt.
+            K.did_keep keeper.old keeper.new receipt.number (outcome_of closed.inner).changes true) }
+        ensures unkept { IfErr result (λ fault.
+            IsUnkept K.did_keep keeper.old keeper.new (outcome_of closed.inner).changes fault.refusal) }
     {
+        let Asker { id, epoch, .. } = *asker;
         let count = self.count();
         let ClosedTransaction {
             inner,
             ticket,
             copy,
         } = closed;
+        let own = CopiedTransaction {
+            closed: inner,
+            copy,
+        };
         let made = match append(
-            rt,
-            shelf,
+            asker,
             &mut self.core,
             &mut self.tokens,
-            epoch,
             session,
-            inner,
-            copy,
+            own,
+            keeper,
         ) {
             Ok(made) => made,
             Err(fault) => {

@@ -6,6 +6,9 @@
 //! the core. A transaction ([`Txn`]) is run by its thread on values of its own: its statements, and the check of
 //! COMMIT, take no lock.
 //!
+//! A commit may have to be kept before it counts, as in a journal ([`Manager::commit_kept`]): it is prepared under the
+//! lock, kept, and only then made. So each transaction begins on commits that were kept.
+//!
 //! What a thread brings to the lock is known again by its token. A transaction carries the token of its snapshot, and
 //! the book has its own token for that number; tokens of one index show one item. So the lock knows on which tables
 //! the transaction ran, and a [`Receipt`] shows the very record that was committed. Which shelf, and which limits,

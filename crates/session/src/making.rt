@@ -1,21 +1,24 @@
 //! Commits that are made.
 
-ghost use Rattle.std.specs.Prelude.{◌≡◌, ◌≢◌, ◌+◌, ◌++◌, ◌∷◌, [], Ok, Some, None, IfOk, IfErr, IfSome};
+ghost use Rattle.std.specs.Prelude.{◌≡◌, ◌≢◌, ◌+◌, ◌++◌, ◌∷◌, [], ℕ, true, length, Ok, Some, None, IfOk, IfErr, IfSome};
 ghost use Rattle.value.specs.declared.refusals.Refusal.TheVariants.{NoMemory};
 ghost use Rattle.boxcar.specs.Table.{Shows};
 ghost use Rattle.commit.specs.Cores.{IsCommitAnswer, IsLive, IsUncommitted, core_after_commit, log_of, pending_txn, record_with, without_prepared};
 ghost use Rattle.alone.specs.Commits.{IsLog};
+ghost use Rattle.session.specs.Answers.{IsUnkept};
 ghost use Rattle.session.specs.Books.{item_after};
 ghost use Rattle.txn.specs.Committed.{AreParts};
+ghost use Rattle.txn.specs.Transactions.{outcome_of};
 
 use crate::items::Item;
 use crate::named::Named;
 use crate::sessions::Session;
 use crate::shelf::{Shelf, Token};
 use alone::Record;
-use commit::{CommitFailure, Core, Prepared};
+use commit::{CommitFailure, Core, Keeper, Prepared};
 use std::alloc::AllocError;
 use std::sync::Wait;
+use table::Change;
 use txn::{ClosedTransaction, Parts};
 use value::{Refusal, Text};
 
@@ -26,84 +29,145 @@ pub struct MadeCommit {
     pub token: Token,
 }
 
+/// Who keeps the commits of a manager that has no journal: each counts as soon as it is made.
+#[derive(Clone, Copy)]
+pub struct Unjournaled;
+
+impl Keeper for Unjournaled {
+    ghost use Rattle.std.specs.Prelude.{◌≡◌, true, ⊤};
+
+    ghost expects = { λ _ _. ⊤ };
+
+    ghost did_keep = { λ _ _ _ _ kept. kept ≡ true };
+
+    ghost goes_on = { λ _ _ _ _ _ _ _. tt };
+
+    fn keep(&mut self, _number: u64, _changes: &[Change]) -> bool {
+        true
+    }
+}
+
+/// The manager that asks a book: its shelf, its id and its epoch, and the runtime by which it waits.
+#[derive(Drop)]
+pub struct Asker<'a, R> {
+    pub rt: &'a R,
+    pub shelf: &'a Shelf,
+    pub id: u64,
+    pub epoch: u64,
+}
+
+/// A transaction that asks to be committed, and a copy of what stays of it, for the item of its commit.
+pub struct CopiedTransaction {
+    pub closed: ClosedTransaction,
+    pub copy: Parts,
+}
+
 /// Makes a commit of a session, with its item on the shelf, and notes its token behind the others. The item takes the
-/// copy of what stays of the transaction. Where it is refused, the tokens are as they were.
+/// copy of what stays of the transaction. The commit counts only once it is kept. Where it is refused, the tokens are
+/// as they were.
 ///
 /// # Errors
 ///
-/// Those of `commit::Core::commit`.
-pub fn append<N: Named, R: Wait>(
-    rt: &R,
-    shelf: &Shelf,
+/// Those of `commit::Core::commit`; and [`Refusal::NoMemory`] where it could not be kept.
+pub fn append<N: Named, R: Wait, K: Keeper>(
+    asker: &Asker<'_, R>,
     core: &mut Core,
     tokens: &mut Vec<Token>,
-    epoch: u64,
     session: &Session<N>,
-    closed: ClosedTransaction,
-    copy: Parts,
+    own: CopiedTransaction,
+    keeper: &mut K,
 ) -> Result<MadeCommit, CommitFailure>
-    requires copy { AreParts closed copy }
-    requires live { IsLive core.old closed }
+    requires copy { AreParts own.closed own.copy }
+    requires live { IsLive core.old own.closed }
     requires idle { core.old.prepared ≡ None }
-    ensures number { IfOk result (λ made. IsCommitAnswer core.old session.now.name closed (Ok made.number)) }
-    ensures shown { IfOk result (λ made. Shows shelf.now made.token) }
-    ensures item { IfOk result (λ made. made.token.value ≡ item_after epoch core.old session.now.name closed) }
+    requires expected { K.expects keeper.old (length core.old.records + 1) }
+    ensures number { IfOk result (λ made.
+        IsCommitAnswer core.old session.now.name own.closed (Ok made.number)) }
+    ensures shown { IfOk result (λ made. Shows asker.now.shelf.now made.token) }
+    ensures item { IfOk result (λ made.
+        made.token.value ≡ item_after asker.now.epoch core.old session.now.name own.closed) }
     ensures log { IfOk result (λ _. IsLog (log_of core.new)) }
-    ensures after { IfOk result (λ _. core.new ≡ core_after_commit core.old session.now.name closed) }
+    ensures after { IfOk result (λ _. core.new ≡ core_after_commit core.old session.now.name own.closed) }
     ensures tokens { IfOk result (λ made. tokens.new.items ≡ tokens.old.items ++ made.token ∷ []) }
     ensures refused { IfErr result (λ fault.
-        IsUncommitted core.old session.now.name closed fault.refusal fault.txn core.new) }
+        IsUncommitted core.old session.now.name own.closed fault.refusal fault.txn core.new) }
     ensures same { IfErr result (λ _. tokens.new.items ≡ tokens.old.items) }
+    ensures kept { IfOk result (λ made.
+        K.did_keep keeper.old keeper.new made.number (outcome_of own.closed).changes true) }
+    ensures unkept { IfErr result (λ fault.
+        IsUnkept K.did_keep keeper.old keeper.new (outcome_of own.closed).changes fault.refusal) }
 {
+    let CopiedTransaction { closed, copy } = own;
     if tokens.reserve(1).is_err() {
         return Err(CommitFailure {
             refusal: Refusal::NoMemory,
             txn: Some(closed.reopen()),
         });
     }
-    let made = make(rt, shelf, core, epoch, session.name(), closed, copy)?;
+    let own = CopiedTransaction { closed, copy };
+    let made = make(asker, core, session.name(), own, keeper)?;
     tokens.push_reserved(made.token.again());
     Ok(made)
 }
 
-/// Makes a commit, with its item on the shelf: it is prepared, the item is pushed, and it is finished; or, where the
-/// item finds no memory, it is given up. The number and the item's token are answered.
+/// Makes a commit, with its item on the shelf: it is prepared, the item is pushed, it is kept, and it is finished; or,
+/// where the item finds no memory or the commit could not be kept, it is given up. The number and the item's token are
+/// answered. (An item that was pushed and has no commit is one that no token shows.)
 ///
 /// # Errors
 ///
-/// Those of `commit::Core::commit`.
-fn make<R: Wait>(
-    rt: &R,
-    shelf: &Shelf,
+/// Those of `commit::Core::commit`; and [`Refusal::NoMemory`] where it could not be kept.
+fn make<R: Wait, K: Keeper>(
+    asker: &Asker<'_, R>,
     core: &mut Core,
-    epoch: u64,
     session: &Text,
-    closed: ClosedTransaction,
-    copy: Parts,
+    own: CopiedTransaction,
+    keeper: &mut K,
 ) -> Result<MadeCommit, CommitFailure>
-    requires copy { AreParts closed copy }
-    requires live { IsLive core.old closed }
+    requires copy { AreParts own.closed own.copy }
+    requires live { IsLive core.old own.closed }
     requires idle { core.old.prepared ≡ None }
-    ensures number { IfOk result (λ made. IsCommitAnswer core.old session.now closed (Ok made.number)) }
-    ensures shown { IfOk result (λ made. Shows shelf.now made.token) }
-    ensures item { IfOk result (λ made. made.token.value ≡ item_after epoch core.old session.now closed) }
+    requires expected { K.expects keeper.old (length core.old.records + 1) }
+    ensures number { IfOk result (λ made. IsCommitAnswer core.old session.now own.closed (Ok made.number)) }
+    ensures shown { IfOk result (λ made. Shows asker.now.shelf.now made.token) }
+    ensures item { IfOk result (λ made.
+        made.token.value ≡ item_after asker.now.epoch core.old session.now own.closed) }
     ensures log { IfOk result (λ _. IsLog (log_of core.new)) }
-    ensures after { IfOk result (λ _. core.new ≡ core_after_commit core.old session.now closed) }
+    ensures after { IfOk result (λ _. core.new ≡ core_after_commit core.old session.now own.closed) }
     ensures refused { IfErr result (λ fault.
-        IsUncommitted core.old session.now closed fault.refusal fault.txn core.new) }
+        IsUncommitted core.old session.now own.closed fault.refusal fault.txn core.new) }
+    ensures kept { IfOk result (λ made.
+        K.did_keep keeper.old keeper.new made.number (outcome_of own.closed).changes true) }
+    ensures unkept { IfErr result (λ fault.
+        IsUnkept K.did_keep keeper.old keeper.new (outcome_of own.closed).changes fault.refusal) }
 {
+    let CopiedTransaction { closed, copy } = own;
     let number = core.prepare(session, closed)?;
-    match put_on(rt, shelf, core, epoch, copy) {
-        Ok(token) => {
-            core.finish();
-            core.recall_log();
-            Ok(MadeCommit { number, token })
-        }
-        Err(_) => Err(cancel(core)),
+    let Ok(token) = put_on(asker.rt, asker.shelf, core, asker.epoch, copy) else {
+        return Err(cancel(core));
+    };
+    if !keep_prepared(core, number, keeper) {
+        return Err(cancel(core));
+    }
+    core.finish();
+    core.recall_log();
+    Ok(MadeCommit { number, token })
+}
+
+/// Keeps the prepared commit, which will have this number. False: it could not be kept.
+fn keep_prepared<K: Keeper>(core: &Core, number: u64, keeper: &mut K) -> bool
+    requires prepared { core.now.prepared ≢ None }
+    requires expected { K.expects keeper.old number }
+    ensures { IfSome core.now.prepared (λ p.
+        K.did_keep keeper.old keeper.new number (outcome_of p.txn).changes result) }
+{
+    match core.prepared() {
+        Some(prepared) => keeper.keep(number, prepared.closed.changes()),
+        None => unreachable!(),
     }
 }
 
-/// Gives the prepared commit up for want of memory, and its transaction back.
+/// Gives the prepared commit up, for which there was no memory or which could not be kept, and its transaction back.
 fn cancel(core: &mut Core) -> CommitFailure
     ensures refusal { result.refusal ≡ NoMemory }
     ensures txn { result.txn ≡ pending_txn core.old.prepared }

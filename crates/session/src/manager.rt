@@ -1,26 +1,27 @@
 //! The manager.
 
-ghost use Rattle.std.specs.Prelude.{◌≡◌, ◌≢◌, ◌≤◌, ◌<◌, ◌+◌, true, false, Ok, Err, Some, IfOk, IfErr, OnErr, OnOk};
+ghost use Rattle.std.specs.Prelude.{◌≡◌, ◌≢◌, ◌≤◌, ◌<◌, ◌+◌, ℕ, true, false, Ok, Err, Some, IfOk, IfErr, OnErr, OnOk};
 ghost use Rattle.std.specs.Arc.{arc_value};
 ghost use Rattle.value.specs.declared.refusals.Refusal.TheVariants.{EpochFull, NoMemory, Stranger, TooManySessions};
 ghost use Rattle.boxcar.specs.Table.{Shows};
 ghost use Rattle.alone.specs.Modes.{assertion_of};
-ghost use Rattle.txn.specs.Transactions.{reads_only};
+ghost use Rattle.txn.specs.Transactions.{outcome_of, reads_only};
 ghost use Rattle.commit.specs.Admission.{tables_if_satisfied};
 ghost use Rattle.commit.specs.Cores.{record_with};
 ghost use Rattle.commit.specs.Epochs.{next_start};
 ghost use Rattle.session.specs.Books.{IsFresh, IsTicketed, tables_left};
-ghost use Rattle.session.specs.Answers.{AreShownBy, IsNotBegun, IsReason, IsRefused, IsRefusedOver, IsSatisfied, IsStanding};
+ghost use Rattle.session.specs.Answers.{AreShownBy, IsNotBegun, IsReason, IsRefused, IsRefusedOver, IsSatisfied, IsStanding, IsUnkept};
 
 use crate::book::Book;
 use crate::history::History;
 use crate::limits::Limits;
+use crate::making::Asker;
 use crate::named::Named;
 use crate::receipts::Receipt;
 use crate::sessions::Session;
 use crate::shelf::{Shelf, Token};
-use crate::tickets::{CloseFailure, CommitFault, Txn};
-use commit::{readmit, require_satisfied};
+use crate::tickets::{CloseFailure, ClosedTransaction, CommitFault, Txn};
+use commit::{Keeper, readmit, require_satisfied};
 use definitions::{Definitions, NewAssertion};
 use std::alloc::Global;
 use std::mem;
@@ -170,6 +171,55 @@ impl<N: Named> Manager<N> {
                 shown: [None, None, None],
             }),
         }
+    }
+
+    /// COMMIT of a transaction whose own tables were checked (`Txn::close_check`), which counts only once it is kept:
+    /// while it is, the manager is locked, so that each transaction begins on commits that were kept.
+    ///
+    /// # Errors
+    ///
+    /// Those of [`Manager::commit`], of which nobody was asked to keep anything; and [`Refusal::NoMemory`] where it is
+    /// accepted and could not be kept, as who keeps the commits can tell: the transaction is then given back.
+    pub fn commit_kept<R: Wait, K: Keeper>(
+        &self,
+        rt: &R,
+        session: &mut Session<N>,
+        closed: ClosedTransaction<N>,
+        keeper: &mut K,
+    ) -> Result<Receipt<N>, CommitFault<N>>
+        requires expected { (number : ℕ) → K.expects keeper.old number }
+        ensures newer { IfOk result (λ receipt. session.old.seen < receipt.number) }
+        ensures seen { IfOk result (λ receipt. session.new ≡ record session.old { seen = receipt.number }) }
+        ensures commit { IfOk result (λ receipt.
+            receipt.token.value.commit ≡ Some (record_with receipt.number session.old.name closed.inner)) }
+        ensures whose { IfOk result (λ receipt. (receipt.id ≡ self.now.id) × (receipt.epoch ≡ self.now.epoch)) }
+        ensures own { IfOk result (λ _. (session.old.id ≡ self.now.id) × (session.old.epoch ≡ self.now.epoch)) }
+        ensures own_txn { IfOk result (λ _.
+            (closed.ticket.id ≡ self.now.id) × (closed.ticket.epoch ≡ self.now.epoch)) }
+        ensures refused { IfErr result (λ fault. IsRefused closed fault.refusal fault.txn) }
+        ensures reason { IfErr result (λ fault.
+            IsReason (N.limits self.now.id).commits session.old.name closed.inner fault.refusal fault.shown) }
+        ensures shown { IfErr result (λ fault. AreShownBy self.now.id self.now.epoch fault.shown) }
+        ensures same { OnErr result (session.new ≡ session.old) }
+        ensures kept { IfOk result (λ receipt.
+            K.did_keep keeper.old keeper.new receipt.number (outcome_of closed.inner).changes true) }
+        ensures unkept { IfErr result (λ fault.
+            IsUnkept K.did_keep keeper.old keeper.new (outcome_of closed.inner).changes fault.refusal) }
+    {
+        // What the transaction alone has of its tables ends behind the lock, since a copy of them lives longer.
+        let own = closed.own().copy();
+        let asker = Asker {
+            rt,
+            shelf: &self.shelf,
+            id: self.id,
+            epoch: self.epoch,
+        };
+        let answered = self
+            .book
+            .lock(rt)
+            .commit_kept(&asker, session, closed, keeper);
+        drop(own);
+        answered
     }
 
     /// ROLLBACK. It takes no memory.

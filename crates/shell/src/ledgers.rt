@@ -15,15 +15,12 @@ use commit::Unanswered;
 use durable::{Ledger, Outlet};
 use journal::Device;
 use replay::write_ending;
-use report::{write_refusal, write_reply};
+use report::{write_not_kept, write_refusal, write_reply};
 use std::alloc::Global;
 use std::io;
 use std::io::{BufReader, Read, Write};
 use syntax::ScriptLine;
 use value::Refusal;
-
-/// Behind the name of a session whose COMMIT is accepted and could not be kept. Its transaction is still open.
-const NOT_KEPT: &str = ": REFUSED 25 58030 IO ERROR\n";
 
 /// Answers of so many bytes wait for a sync at most.
 const MOST_HELD: usize = 1 << 16;
@@ -273,9 +270,6 @@ fn write_answer<W: Write>(
     match answered {
         Ok(answer) => write_reply(line, answer, out),
         Err(Unanswered::NoMemory) => write_reply(line, &Answer::Refused(Refusal::NoMemory), out),
-        Err(Unanswered::NotKept) => {
-            out.write_all(line.session.as_bytes())?;
-            out.write_all(NOT_KEPT.as_bytes())
-        }
+        Err(Unanswered::NotKept) => write_not_kept(&line.session, out),
     }
 }

@@ -6,9 +6,6 @@ use std::alloc::{AllocError, Global};
 /// The version that `--version` tells.
 const VERSION: &str = "0.1.0";
 
-/// At most so many commits in one run, where the command line gives no number.
-const MOST_COMMITS: &str = "1000000";
-
 /// Behind the list of subcommands.
 const AFTER: &str = "\
 DEFS is a file of CREATE TABLE, CREATE ASSERTION and INSERT; SCRIPT one of events, as `ALICE: BEGIN;`.
@@ -36,8 +33,10 @@ const AFTER_THREADS: &str = "\
 The lines of a session stand together. What is answered is that of some order of the sessions' events, another one
 each time.
 
+With --journal each COMMIT is on the disk before it counts. FILE is made where there is none; else it has the rows.
+
 Example:
-  $ skewguard threads defs.sql script.sql";
+  $ skewguard threads defs.sql script.sql --journal duty";
 
 const AFTER_SHELL: &str = "\
 An event may span lines and ends at `;`. Without `NAME:` it is one of ME. On a terminal `.help` lists what else may
@@ -115,197 +114,280 @@ Example:
   $ skewguard sqlite defs.sql --journal duty | sqlite3 -bail duty.db
   $ sqlite3 duty.db 'SELECT SHIFT, COUNT(*) FROM DUTY GROUP BY SHIFT'";
 
-/// So many commits share a sync where no number is named.
-const SYNC_EVERY: &str = "1";
+/// A subcommand, and the words that it takes.
+struct Subcommand {
+    name: &'static str,
+    about: &'static str,
+    /// What its help says behind the list of its words.
+    after: &'static str,
+    words: &'static [Word],
+}
 
-/// A journal grows by so many bytes where no number is named.
-const CHECKPOINT_BYTES: &str = "16777216";
+/// A word of a subcommand.
+#[derive(Clone, Copy)]
+struct Word {
+    name: &'static str,
+    kind: WordKind,
+    is_required: bool,
+    help: &'static str,
+}
+
+/// How a word stands on the command line, and what it may be.
+#[derive(Clone, Copy)]
+enum WordKind {
+    /// A file, by its place.
+    File,
+    /// A number from 1 on, by its place.
+    Number,
+    /// `--name`.
+    Flag,
+    /// `--name FILE`.
+    FileOption,
+    /// `--name N`, a number from 1 on; the one that is taken where none is written.
+    NumberOption(&'static str),
+    /// The same, which is taken beside `--journal` alone.
+    JournalOption(&'static str),
+}
+
+const DEFS: Word = Word {
+    name: "DEFS",
+    kind: WordKind::File,
+    is_required: true,
+    help: "A file of definitions: tables, assertions and the rows to begin with",
+};
+
+const SCRIPT: Word = Word {
+    name: "SCRIPT",
+    kind: WordKind::File,
+    is_required: true,
+    help: "A file of events of any sessions, one after the other",
+};
+
+const LIMIT: Word = Word {
+    name: "max-commits",
+    kind: WordKind::NumberOption("1000000"),
+    is_required: false,
+    help: "At most so many commits",
+};
+
+const SUBCOMMANDS: &[Subcommand] = &[
+    Subcommand {
+        name: "replay",
+        about: "Replays a script on definitions and prints the reply to each event",
+        after: AFTER_REPLAY,
+        words: &[LIMIT, DEFS, SCRIPT],
+    },
+    Subcommand {
+        name: "threads",
+        about: "Runs each session of a script on a thread and prints the replies by session",
+        after: AFTER_THREADS,
+        words: &[
+            Word {
+                name: "journal",
+                kind: WordKind::FileOption,
+                is_required: false,
+                help: "Keeps each commit in FILE before it counts, and goes on from what FILE holds",
+            },
+            LIMIT,
+            DEFS,
+            SCRIPT,
+        ],
+    },
+    Subcommand {
+        name: "shell",
+        about: "Answers events from standard input, each at once",
+        after: AFTER_SHELL,
+        words: &[
+            DEFS,
+            Word {
+                name: "report",
+                kind: WordKind::Flag,
+                is_required: false,
+                help: "Prints at the end what replay prints there",
+            },
+            Word {
+                name: "journal",
+                kind: WordKind::FileOption,
+                is_required: false,
+                help: "Keeps each commit in FILE before it is answered, and goes on from what FILE holds",
+            },
+            Word {
+                name: "sync-every",
+                kind: WordKind::JournalOption("1"),
+                is_required: false,
+                help: "Up to so many commits share a sync, while whole events are at hand",
+            },
+            Word {
+                name: "checkpoint-bytes",
+                kind: WordKind::JournalOption("16777216"),
+                is_required: false,
+                help: "Makes a checkpoint where the journal has grown by so many bytes, and to twice its length",
+            },
+            LIMIT,
+        ],
+    },
+    Subcommand {
+        name: "checkpoint",
+        about: "Puts an image of its rows in a journal's place, under these definitions",
+        after: AFTER_CHECKPOINT,
+        words: &[
+            Word {
+                name: "DEFS",
+                kind: WordKind::File,
+                is_required: true,
+                help: "A file of definitions: tables and assertions",
+            },
+            Word {
+                name: "journal",
+                kind: WordKind::FileOption,
+                is_required: true,
+                help: "The file of the journal",
+            },
+        ],
+    },
+    Subcommand {
+        name: "journal",
+        about: "Prints what a journal holds",
+        after: AFTER_JOURNAL,
+        words: &[
+            Word {
+                name: "FILE",
+                kind: WordKind::File,
+                is_required: true,
+                help: "The file of a journal",
+            },
+            Word {
+                name: "commits",
+                kind: WordKind::Flag,
+                is_required: false,
+                help: "Prints each commit, with the rows that it changed",
+            },
+            Word {
+                name: "follow",
+                kind: WordKind::Flag,
+                is_required: false,
+                help: "Prints each commit, and goes on with those that come",
+            },
+        ],
+    },
+    Subcommand {
+        name: "check",
+        about: "Shows what texts define, what their assertions cost, and their first faults",
+        after: AFTER_CHECK,
+        words: &[
+            Word {
+                name: "json",
+                kind: WordKind::Flag,
+                is_required: false,
+                help: "Prints one JSON object, for editors",
+            },
+            DEFS,
+            Word {
+                is_required: false,
+                ..SCRIPT
+            },
+        ],
+    },
+    Subcommand {
+        name: "explain",
+        about: "Says why events of a script are answered so",
+        after: AFTER_EXPLAIN,
+        words: &[
+            LIMIT,
+            DEFS,
+            SCRIPT,
+            Word {
+                name: "EVENT",
+                kind: WordKind::Number,
+                is_required: false,
+                help: "The number of an event in SCRIPT",
+            },
+        ],
+    },
+    Subcommand {
+        name: "picture",
+        about: "Draws the transactions of a script and their conflicts, as SVG",
+        after: AFTER_PICTURE,
+        words: &[LIMIT, DEFS, SCRIPT],
+    },
+    Subcommand {
+        name: "postgresql",
+        about: "Prints definitions as SQL for PostgreSQL 15 or later",
+        after: AFTER_POSTGRESQL,
+        words: &[Word {
+            name: "DEFS",
+            kind: WordKind::File,
+            is_required: true,
+            help: "A file of definitions",
+        }],
+    },
+    Subcommand {
+        name: "sqlite",
+        about: "Prints tables and rows, of a journal too, as SQL for SQLite 3",
+        after: AFTER_SQLITE,
+        words: &[
+            Word {
+                name: "DEFS",
+                kind: WordKind::File,
+                is_required: true,
+                help: "A file of definitions",
+            },
+            Word {
+                name: "journal",
+                kind: WordKind::FileOption,
+                is_required: false,
+                help: "The file of a journal whose rows are printed",
+            },
+        ],
+    },
+];
 
 /// The words that the program takes.
 pub fn make_command<'a>(alloc: Global) -> Result<Command<'a>, AllocError> {
-    Command::new(alloc, "skewguard")
+    let mut command = Command::new(alloc, "skewguard")
         .about("Runs transactions on tables that SQL-92 assertions guard")
         .version(VERSION)
         .after_help(AFTER)
-        .subcommand_required(true)
-        .subcommand(replay_command(alloc)?)?
-        .subcommand(threads_command(alloc)?)?
-        .subcommand(shell_command(alloc)?)?
-        .subcommand(checkpoint_command(alloc)?)?
-        .subcommand(journal_command(alloc)?)?
-        .subcommand(check_command(alloc)?)?
-        .subcommand(explain_command(alloc)?)?
-        .subcommand(picture_command(alloc)?)?
-        .subcommand(postgresql_command(alloc)?)?
-        .subcommand(sqlite_command(alloc)?)
+        .subcommand_required(true);
+    for subcommand in SUBCOMMANDS {
+        command = command.subcommand(make_subcommand(alloc, subcommand)?)?;
+    }
+    Ok(command)
 }
 
-fn replay_command<'a>(alloc: Global) -> Result<Command<'a>, AllocError> {
-    let command = Command::new(alloc, "replay")
-        .about("Replays a script on definitions and prints the reply to each event")
-        .after_help(AFTER_REPLAY);
-    add_texts(alloc, add_limit(alloc, command)?, true)
-}
-
-fn threads_command<'a>(alloc: Global) -> Result<Command<'a>, AllocError> {
-    let command = Command::new(alloc, "threads")
-        .about("Runs each session of a script on a thread and prints the replies by session")
-        .after_help(AFTER_THREADS);
-    add_texts(alloc, add_limit(alloc, command)?, true)
-}
-
-fn shell_command<'a>(alloc: Global) -> Result<Command<'a>, AllocError> {
-    let defs = Arg::new(alloc, "DEFS").required(true).help(
-        "A file of definitions: tables, assertions and the rows to begin with",
-    );
-    let report = Arg::new(alloc, "report")
-        .long("report")
-        .action(ArgAction::SetTrue)
-        .help("Prints at the end what replay prints there");
-    let journal = journal_arg(
-        alloc,
-        "Keeps each commit in FILE before it is answered, and goes on from what FILE holds",
-    );
-    let command = Command::new(alloc, "shell")
-        .about("Answers events from standard input, each at once")
-        .after_help(AFTER_SHELL);
-    let command = command.arg(defs)?.arg(report)?.arg(journal)?;
-    add_limit(alloc, add_pace(alloc, command)?)
-}
-
-/// The command with the options of a journal that is written.
-fn add_pace<'a>(alloc: Global, command: Command<'a>) -> Result<Command<'a>, AllocError> {
-    let sync_every = Arg::new(alloc, "sync-every")
-        .long("sync-every")
-        .value_name("N")
-        .value_parser(value_parser!(u32).range(1..))
-        .default_value(SYNC_EVERY)
-        .requires_arg("journal")?
-        .help("Up to so many commits share a sync, while whole events are at hand");
-    let checkpoint_bytes = Arg::new(alloc, "checkpoint-bytes")
-        .long("checkpoint-bytes")
-        .value_name("N")
-        .value_parser(value_parser!(u32).range(1..))
-        .default_value(CHECKPOINT_BYTES)
-        .requires_arg("journal")?
-        .help(
-            "Makes a checkpoint where the journal has grown by so many bytes, and to twice its length",
-        );
-    command.arg(sync_every)?.arg(checkpoint_bytes)
-}
-
-/// The option that names the file of a journal.
-fn journal_arg<'a>(alloc: Global, help: &'a str) -> Arg<'a> {
-    Arg::new(alloc, "journal")
-        .long("journal")
-        .value_name("FILE")
-        .help(help)
-}
-
-fn checkpoint_command<'a>(alloc: Global) -> Result<Command<'a>, AllocError> {
-    let defs = Arg::new(alloc, "DEFS")
-        .required(true)
-        .help("A file of definitions: tables and assertions");
-    let journal = journal_arg(alloc, "The file of the journal").required(true);
-    Command::new(alloc, "checkpoint")
-        .about("Puts an image of its rows in a journal's place, under these definitions")
-        .after_help(AFTER_CHECKPOINT)
-        .arg(defs)?
-        .arg(journal)
-}
-
-fn journal_command<'a>(alloc: Global) -> Result<Command<'a>, AllocError> {
-    let file = Arg::new(alloc, "FILE")
-        .required(true)
-        .help("The file of a journal");
-    let commits = Arg::new(alloc, "commits")
-        .long("commits")
-        .action(ArgAction::SetTrue)
-        .help("Prints each commit, with the rows that it changed");
-    let follow = Arg::new(alloc, "follow")
-        .long("follow")
-        .action(ArgAction::SetTrue)
-        .help("Prints each commit, and goes on with those that come");
-    Command::new(alloc, "journal")
-        .about("Prints what a journal holds")
-        .after_help(AFTER_JOURNAL)
-        .arg(file)?
-        .arg(commits)?
-        .arg(follow)
-}
-
-fn check_command<'a>(alloc: Global) -> Result<Command<'a>, AllocError> {
-    let json = Arg::new(alloc, "json")
-        .long("json")
-        .action(ArgAction::SetTrue)
-        .help("Prints one JSON object, for editors");
-    let command = Command::new(alloc, "check")
-        .about("Shows what texts define, what their assertions cost, and their first faults")
-        .after_help(AFTER_CHECK);
-    add_texts(alloc, command.arg(json)?, false)
-}
-
-fn explain_command<'a>(alloc: Global) -> Result<Command<'a>, AllocError> {
-    let event = Arg::new(alloc, "EVENT")
-        .value_parser(value_parser!(u64).range(1..))
-        .help("The number of an event in SCRIPT");
-    let command = Command::new(alloc, "explain")
-        .about("Says why events of a script are answered so")
-        .after_help(AFTER_EXPLAIN);
-    add_texts(alloc, add_limit(alloc, command)?, true)?.arg(event)
-}
-
-fn picture_command<'a>(alloc: Global) -> Result<Command<'a>, AllocError> {
-    let command = Command::new(alloc, "picture")
-        .about("Draws the transactions of a script and their conflicts, as SVG")
-        .after_help(AFTER_PICTURE);
-    add_texts(alloc, add_limit(alloc, command)?, true)
-}
-
-fn postgresql_command<'a>(alloc: Global) -> Result<Command<'a>, AllocError> {
-    let defs = Arg::new(alloc, "DEFS")
-        .required(true)
-        .help("A file of definitions");
-    Command::new(alloc, "postgresql")
-        .about("Prints definitions as SQL for PostgreSQL 15 or later")
-        .after_help(AFTER_POSTGRESQL)
-        .arg(defs)
-}
-
-fn sqlite_command<'a>(alloc: Global) -> Result<Command<'a>, AllocError> {
-    let defs = Arg::new(alloc, "DEFS")
-        .required(true)
-        .help("A file of definitions");
-    let journal = journal_arg(alloc, "The file of a journal whose rows are printed");
-    Command::new(alloc, "sqlite")
-        .about("Prints tables and rows, of a journal too, as SQL for SQLite 3")
-        .after_help(AFTER_SQLITE)
-        .arg(defs)?
-        .arg(journal)
-}
-
-/// The command with the words that name the two texts.
-fn add_texts<'a>(
+fn make_subcommand<'a>(
     alloc: Global,
-    command: Command<'a>,
-    script_is_required: bool,
+    subcommand: &'static Subcommand,
 ) -> Result<Command<'a>, AllocError> {
-    let defs = Arg::new(alloc, "DEFS").required(true).help(
-        "A file of definitions: tables, assertions and the rows to begin with",
-    );
-    let script = Arg::new(alloc, "SCRIPT")
-        .required(script_is_required)
-        .help("A file of events of any sessions, one after the other");
-    command.arg(defs)?.arg(script)
+    let mut command = Command::new(alloc, subcommand.name)
+        .about(subcommand.about)
+        .after_help(subcommand.after);
+    for word in subcommand.words {
+        command = command.arg(make_arg(alloc, *word)?)?;
+    }
+    Ok(command)
 }
 
-/// The command with the limit of commits.
-fn add_limit<'a>(alloc: Global, command: Command<'a>) -> Result<Command<'a>, AllocError> {
-    let limit = Arg::new(alloc, "max-commits")
-        .long("max-commits")
+fn make_arg<'a>(alloc: Global, word: Word) -> Result<Arg<'a>, AllocError> {
+    let arg = Arg::new(alloc, word.name)
+        .required(word.is_required)
+        .help(word.help);
+    Ok(match word.kind {
+        WordKind::File => arg,
+        WordKind::Number => arg.value_parser(value_parser!(u64).range(1..)),
+        WordKind::Flag => arg.long(word.name).action(ArgAction::SetTrue),
+        WordKind::FileOption => arg.long(word.name).value_name("FILE"),
+        WordKind::NumberOption(default) => make_number(arg, word.name, default),
+        WordKind::JournalOption(default) => {
+            make_number(arg, word.name, default).requires_arg("journal")?
+        }
+    })
+}
+
+/// The option that takes a number.
+fn make_number<'a>(arg: Arg<'a>, name: &'static str, default: &'static str) -> Arg<'a> {
+    arg.long(name)
         .value_name("N")
         .value_parser(value_parser!(u32).range(1..))
-        .default_value(MOST_COMMITS)
-        .help("At most so many commits");
-    command.arg(limit)
+        .default_value(default)
 }

@@ -1,4 +1,5 @@
-//! `skewguard shell --journal`: events on a journal, by which committed transactions outlive the process.
+//! Journals, by which committed transactions outlive the process: how one is opened, `skewguard shell --journal`, and
+//! `skewguard checkpoint`.
 
 ghost use Rattle.std.specs.Prelude.{◌≡◌, ◌≤◌, ◌+◌, [], length, IfOk};
 ghost use Rattle.durable.specs.Promise.{IsReadyFor};
@@ -26,9 +27,10 @@ const ROOM: usize = 1 << 20;
 
 /// Why a journal was not opened.
 #[derive(Debug, Drop)]
-enum Unopened {
+pub enum Unopened {
     NoMemory,
-    Defs(ProgramFault),
+    /// A text was refused.
+    Text(ProgramFault),
     File(FileFault),
     /// It does not begin as a journal does.
     Headless,
@@ -91,7 +93,7 @@ pub struct OnJournal<'a> {
 
 /// Of which definitions a journal may be.
 #[derive(Clone, Copy, PartialEq, Eq)]
-enum Whose {
+pub enum Whose {
     /// Of these alone, by the sum of their text.
     Theirs,
     /// Of any whose tables hold its rows.
@@ -271,15 +273,35 @@ fn open_ledger<R: Files<File = File> + AllocGlobal>(
     ensures ready { IfOk result (λ ledger. IsReadyFor file_bytes file_may_leave 1 ledger.writer) }
     ensures fresh { IfOk result (λ ledger. ledger.engine.core.records ≡ []) }
 {
+    let declared = admit_defs(rt.alloc(), defs)?;
+    open_declared(rt, defs, &declared, path, limit, whose)
+}
+
+/// The tables that definitions begin with.
+pub fn admit_defs(alloc: Global, defs: &[u8]) -> Result<View, Unopened> {
+    match admit_text(alloc, defs) {
+        Ok(view) => Ok(view),
+        Err(refusal) => Err(Unopened::Text(ProgramFault::Defs(refusal))),
+    }
+}
+
+/// The ledger in the file of this name, which is made where there is none, of definitions that begin with these tables.
+pub fn open_declared<R: Files<File = File> + AllocGlobal>(
+    rt: &R,
+    defs: &[u8],
+    declared: &View,
+    path: &str,
+    limit: u32,
+    whose: Whose,
+) -> Result<Ledger<JournalFile<File>>, Unopened>
+    ensures ready { IfOk result (λ ledger. IsReadyFor file_bytes file_may_leave 1 ledger.writer) }
+    ensures fresh { IfOk result (λ ledger. ledger.engine.core.records ≡ []) }
+{
     let alloc = rt.alloc();
-    let declared = match admit_text(alloc, defs) {
-        Ok(view) => view,
-        Err(refusal) => return Err(Unopened::Defs(ProgramFault::Defs(refusal))),
-    };
     let (file, bytes) = match JournalFile::open(rt, path) {
         Ok(opened) => opened,
         Err(FileFault::NotFound) if whose == Whose::Theirs => {
-            let image = spell_image(alloc, defs, &declared, 0)?;
+            let image = spell_image(alloc, defs, declared, 0)?;
             drop(write_new(rt, path, None, image.as_slice(), ROOM)?);
             JournalFile::open(rt, path)?
         }
@@ -297,7 +319,7 @@ fn open_ledger<R: Files<File = File> + AllocGlobal>(
         file.behind(base),
         &bytes[base..],
         header.first,
-        &declared,
+        declared,
         limit,
     );
     match opened {
@@ -352,7 +374,7 @@ fn replace_by_image<R: Files<File = File> + AllocGlobal>(
 }
 
 /// Says why a journal was not opened, and gives the status to end with.
-fn report_unopened<W: Write, E: Write>(
+pub fn report_unopened<W: Write, E: Write>(
     alloc: Global,
     fault: Unopened,
     path: &str,
@@ -363,7 +385,7 @@ fn report_unopened<W: Write, E: Write>(
 {
     match fault {
         Unopened::NoMemory => report_no_memory(streams.err),
-        Unopened::Defs(fault) => end_run(alloc, Err(fault), texts, streams),
+        Unopened::Text(fault) => end_run(alloc, Err(fault), texts, streams),
         Unopened::File(fault) => {
             let _ = write!(
                 streams.err,

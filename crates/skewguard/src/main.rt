@@ -12,7 +12,8 @@
 //!
 //! `skewguard threads` runs each session of a script on a thread of its own, over one manager (`session`), and
 //! prints the same lines by session; what it promises stands at `threads::threads_into`. The texts, the faults and
-//! the closing part are the same for both (`replay`).
+//! the closing part are the same for both (`replay`). With a journal each COMMIT is on the disk before it counts
+//! (`runs_on_journal`, over `threads::threads_on_journal`).
 //!
 //! `skewguard shell` answers events from standard input, each at once; what it promises of a pipe, from bytes to bytes,
 //! stands at `shell::shell_into`. On a terminal it talks (`shell::converse_into`). With a journal it answers each
@@ -26,9 +27,10 @@
 //! engine (`postgresql`), and `skewguard sqlite` the rows, of a journal too, for one that only asks (`sqlite_text`).
 //!
 //! The module `program` is the command line: which subcommand is meant, and the status to end with. `commands` has the
-//! words that are taken; `runs`, `shells`, `checks`, `explanations`, `translations` and `dumps` what they do; `files`
-//! and `texts` what is read, `signs` the line that shows on a terminal that long work goes on, and `endings` what is
-//! said of a run that failed. A further subcommand is a function in `commands` and a line in `program::run_named`.
+//! words that are taken; `runs`, `runs_on_journal`, `shells`, `checks`, `explanations`, `translations` and `dumps` what
+//! they do; `files` and `texts` what is read, `signs` the line that shows on a terminal that long work goes on, and
+//! `endings` what is said of a run that failed. A further subcommand is a function in `commands` and a line in
+//! `program::run_named`.
 #![tactic(auto)]
 
 mod checks;
@@ -43,6 +45,7 @@ mod journals;
 mod ledgers;
 mod program;
 mod runs;
+mod runs_on_journal;
 mod shells;
 mod signs;
 mod texts;

@@ -4,10 +4,12 @@ ghost use Rattle.std.specs.Prelude.{◌≤◌};
 
 use crate::endings::end_run;
 use crate::files::{Streams, USAGE, report_no_memory};
+use crate::runs_on_journal::run_on_journal;
 use crate::texts::{Texts, limit_of, read_texts};
 use clap::ArgMatches;
 use replay::{ProgramFault, replay_into};
 use session::Shelf;
+use std::fs::File;
 use std::io::{BufWriter, Write};
 use std::marker::Brand;
 use std::rt::Files;
@@ -24,13 +26,13 @@ pub enum Way {
     OnThreads,
 }
 
-/// Runs the two files that the words name.
+/// Runs the two files that the words name. On threads they may be run on a journal.
 pub fn run<R, W, E>(rt: &R, way: Way, words: &ArgMatches<'_>, streams: &mut Streams<'_, W, E>) -> u8
 where
-    R: Files + AllocGlobal + Threads + Wait + Sync,
+    R: Files<File = File> + AllocGlobal + Threads + Wait + Sync,
     W: Write,
     E: Write,
-    ensures { result ≤ 3 }
+    ensures { result ≤ 4 }
 {
     let Some(limit) = limit_of(words) else {
         return USAGE;
@@ -39,7 +41,10 @@ where
         Ok(texts) => texts,
         Err(status) => return status,
     };
-    run_texts(rt, way, &texts, limit, streams)
+    match (way, words.get_str("journal")) {
+        (Way::OnThreads, Some(path)) => run_on_journal(rt, &texts, path, limit, streams),
+        _ => run_texts(rt, way, &texts, limit, streams),
+    }
 }
 
 /// Runs the two texts. What is refused is said in one line on the second stream, and on a terminal with a picture

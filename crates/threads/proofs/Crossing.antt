@@ -12,6 +12,9 @@ use Rattle.syntax.specs.contracts.trees.Condition as Condition
 use Rattle.syntax.specs.contracts.trees.Expression as Expression
 use Rattle.syntax.specs.contracts.statements.Assignment as Assignment
 use Rattle.syntax.specs.contracts.statements.ScriptLine as ScriptLine
+use Rattle.journal.specs.declared.device.Device as device
+use Rattle.threads.specs.contracts.keeping.Commits as Commits
+use Rattle.threads.specs.contracts.keeping.Keeping as Keeping
 use Rattle.threads.specs.contracts.runs.Room as Room
 use Rattle.threads.specs.contracts.scripts.Script as Script
 
@@ -33,7 +36,15 @@ Script-sync = search (ScriptLine-sync, Text.the_sync, crosses, sendable) depth 6
 pub Room-send : IsSend Room.the_row
 Room-send = search (Answer.the_send, Refusal.the_send, crosses, sendable) depth 60 fits 20000
 
--- a closure crosses if its six captures do, whatever its name
-pub six-send : (ν : List ℕ) (A B C D E F : RattleType) → IsSend A → IsSend B → IsSend C → IsSend D → IsSend E → IsSend F
-    → IsSend (TupleAt ν (A ∷ B ∷ C ∷ D ∷ E ∷ F ∷ []))
-six-send ν A B C D E F a b c d e f = search sendable depth 60 fits 20000
+-- who keeps commits, over any file that may cross
+pub Keeping-send : (D : RattleType) (g : device.Ghosts D.Denot) → IsSend D → IsSend (Keeping.the_row D g)
+Keeping-send D g s = search (crosses, sendable) depth 60 fits 20000
+
+-- and so threads may share how commits are made
+pub Commits-sync : (D : RattleType) (g : device.Ghosts D.Denot) → IsSend D → IsSync (Commits.the_row D g)
+Commits-sync D g s = search (Keeping-send, crosses, sendable) depth 60 fits 20000
+
+-- a closure crosses if its seven captures do, whatever its name
+pub seven-send : (ν : List ℕ) (A B C D E F G : RattleType) → IsSend A → IsSend B → IsSend C → IsSend D → IsSend E → IsSend F → IsSend G
+    → IsSend (TupleAt ν (A ∷ B ∷ C ∷ D ∷ E ∷ F ∷ G ∷ []))
+seven-send ν A B C D E F G a b c d e f g = search sendable depth 60 fits 20000

@@ -1,6 +1,6 @@
 -- What is opened, and what is then written, is the report that the contract has.
-use Rattle.std.proofs.Common.{◌≡◌, ℕ, Bool, true, false, List, Option, Result, Ok, Err, ap, refl, sym, ◌∙◌, subst, inl, inr}
-use Rattle.std.specs.Prelude.{◌≢◌, ◌⊎◌, OnOk, IfErr}
+use Rattle.std.proofs.Common.{◌≡◌, length, ℕ, Bool, true, false, List, Option, Some, None, Result, Ok, Err, ap, refl, sym, ◌∙◌, subst, inl, inr}
+use Rattle.std.specs.Prelude.{◌≢◌, ◌⊎◌, OnOk, IfErr, is_some}
 use Rattle.std.specs.Io.KnownBytes.{Appends}
 use Rattle.value.specs.declared.refusals.Refusal.{Refusal}
 use Rattle.value.specs.declared.refusals.Refusal.TheVariants.{NoMemory, TooManySessions}
@@ -20,7 +20,8 @@ use Rattle.replay.specs.Takings.{AreTaken}
 use Rattle.replay.proofs.Late.{late_fault}
 use Rattle.replay.proofs.Taking.{admitted}
 use Rattle.threads.specs.Grouping.{scripts_of}
-use Rattle.threads.specs.Grouped.{AreOpened, PrintsGrouped, WritesGrouped, all_ran, grouped_report}
+use Rattle.threads.specs.Kept.{WritesKept}
+use Rattle.threads.specs.Grouped.{AreAsMany, AreOpened, PrintsGrouped, WritesGrouped, all_ran, grouped_report}
 
 -- what is opened over the definitions that were taken in has their tables
 pub are_opened : (defs script : List ℕ) (made : ViewState) (lines : List ScriptLine) (scripts : List Script)
@@ -46,11 +47,11 @@ scripts_refused defs script made lines read holds refusal (inr many) = inr (reco
   refused = many.1;
 })
 
-pub prints : (scripts : List Script) (found : List ScriptAnswers) (core : CoreState) (loaded : ViewState) (limit : ℕ) (all : Bool) (old new : Option (List ℕ))
-    → IsOver core loaded limit → IsSerializable core → all_ran found ≡ all → Appends old new (grouped_report scripts found core)
-    → PrintsGrouped scripts found loaded limit all old new
-prints scripts found core loaded limit all old new over serializable ran written =
-    record { core = core; over = over; serializable = serializable; ran = ran; written = written }
+pub prints : (scripts : List Script) (found : List ScriptAnswers) (core : CoreState) (loaded : ViewState) (limit : ℕ) (next : Option ℕ) (all : Bool) (old new : Option (List ℕ))
+    → IsOver core loaded limit → IsSerializable core → AreAsMany (length core.records) next → all_ran found ≡ all
+    → Appends old new (grouped_report (is_some next) scripts found core) → PrintsGrouped scripts found loaded limit next all old new
+prints scripts found core loaded limit next all old new over serializable as_many ran written =
+    record { core = core; over = over; serializable = serializable; as_many = as_many; ran = ran; written = written }
 
 module _ (defs script : List ℕ) (shown : ViewState) (limit : ℕ) (scripts : List Script) (o : AreOpened defs script shown scripts) where
   pub no_room : IsFirstFault defs script (ScriptFault NoMemory)
@@ -59,10 +60,10 @@ module _ (defs script : List ℕ) (shown : ViewState) (limit : ℕ) (scripts : L
   run : IsRun defs script
   run = record { shown = shown; lines = o.lines; ready = o.ready }
 
-  reported : (found : List ScriptAnswers) (all : Bool) (old new : Option (List ℕ)) → AreAnswered scripts found → PrintsGrouped scripts found shown limit all old new
+  reported : (found : List ScriptAnswers) (all : Bool) (old new : Option (List ℕ)) → AreAnswered scripts found → PrintsGrouped scripts found shown limit None all old new
       → WritesGrouped defs script limit all old new
   reported found all old new answered p = record {
-    bytes = grouped_report scripts found p.core;
+    bytes = grouped_report false scripts found p.core;
     is = record {
       shown = shown;
       lines = o.lines;
@@ -73,18 +74,18 @@ module _ (defs script : List ℕ) (shown : ViewState) (limit : ℕ) (scripts : L
       ran = p.ran;
       over = p.over;
       serializable = p.serializable;
-      prints = ap (λ s. grouped_report s found p.core) o.are;
+      prints = ap (λ s. grouped_report false s found p.core) o.are;
     };
     written = p.written;
   }
 
   pub reports : {A : Type 0} (printed : Result A ProgramFault) (found : List ScriptAnswers) (old new : Option (List ℕ)) → AreAnswered scripts found
-      → OnOk printed (PrintsGrouped scripts found shown limit true old new) → OnOk printed (WritesGrouped defs script limit true old new)
+      → OnOk printed (PrintsGrouped scripts found shown limit None true old new) → OnOk printed (WritesGrouped defs script limit true old new)
   reports (Ok done) found old new answered p = reported found true old new answered p
   reports (Err fault) found old new answered p = tt
 
   pub reports_unrun : {A : Type 0} (printed : Result A ProgramFault) (found : List ScriptAnswers) (old new : Option (List ℕ)) → AreAnswered scripts found
-      → IfErr printed (λ fault. fault ≡ NoThread → PrintsGrouped scripts found shown limit false old new)
+      → IfErr printed (λ fault. fault ≡ NoThread → PrintsGrouped scripts found shown limit None false old new)
       → IfErr printed (λ fault. fault ≡ NoThread → WritesGrouped defs script limit false old new)
   reports_unrun (Ok done) found old new answered p = tt
   reports_unrun (Err fault) found old new answered p = λ e. reported found false old new answered (p e)
@@ -118,3 +119,17 @@ pub not_unrun : {A : Type 0} (P : Type 0) (opened : Result A ProgramFault)
     → IfErr opened (λ fault. is_before_the_run fault ≡ true) → IfErr opened (λ fault. fault ≡ NoThread → P)
 not_unrun P (Ok made) before = tt
 not_unrun P (Err fault) before = no_unrun P fault before
+
+-- the report of a run on a journal, of what was answered
+pub reports_kept : {A : Type 0} (printed : Result A ProgramFault) (scripts : List Script) (found : List ScriptAnswers) (loaded : ViewState) (limit next : ℕ) (old new : Option (List ℕ))
+    → AreAnswered scripts found → OnOk printed (PrintsGrouped scripts found loaded limit (Some next) true old new) → OnOk printed (WritesKept scripts loaded limit true old new)
+reports_kept (Ok done) scripts found loaded limit next old new answered p = record { found = found; next = next; answered = answered; prints = p }
+reports_kept (Err fault) scripts found loaded limit next old new answered p = tt
+
+pub reports_kept_unrun : {A : Type 0} (printed : Result A ProgramFault) (scripts : List Script) (found : List ScriptAnswers) (loaded : ViewState) (limit next : ℕ)
+    (old new : Option (List ℕ)) → AreAnswered scripts found
+    → IfErr printed (λ fault. fault ≡ NoThread → PrintsGrouped scripts found loaded limit (Some next) false old new)
+    → IfErr printed (λ fault. fault ≡ NoThread → WritesKept scripts loaded limit false old new)
+reports_kept_unrun (Ok done) scripts found loaded limit next old new answered p = tt
+reports_kept_unrun (Err fault) scripts found loaded limit next old new answered p =
+    λ e. record { found = found; next = next; answered = answered; prints = p e }

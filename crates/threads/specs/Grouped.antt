@@ -1,5 +1,5 @@
 -- What is written of scripts that ran on threads.
-use Rattle.std.specs.Prelude.{◌≡◌, ℕ, Bool, true, false, List, [], ◌∷◌, ◌++◌, Option}
+use Rattle.std.specs.Prelude.{◌≡◌, ◌+◌, ℕ, Bool, true, false, List, [], ◌∷◌, ◌++◌, length, Option, Some, None, is_some, ⊤}
 use Rattle.std.specs.List.{list_all}
 use Rattle.std.specs.Io.KnownBytes.{Appends}
 use Rattle.syntax.specs.declared.statements.ScriptLine.{ScriptLine}
@@ -10,7 +10,8 @@ use Rattle.session.specs.Books.{IsOver}
 use Rattle.threads.specs.declared.scripts.Script.{Script}
 use Rattle.threads.specs.declared.scripts.ScriptAnswers.{ScriptAnswers}
 use Rattle.threads.specs.Scripts.{AreAnswered}
-use Rattle.replay.specs.Reports.{answer_lines, closing_part_of}
+use Rattle.threads.specs.Marked.{lines_of}
+use Rattle.replay.specs.Reports.{closing_part_of}
 use Rattle.replay.specs.Texts.{AreReady}
 use Rattle.threads.specs.Grouping.{scripts_of}
 
@@ -20,18 +21,25 @@ ended_line false session = []
 ended_line true session = left_open_line session
 
 -- what is reported of a script: the lines of its answers, and of what was rolled back at its end
-abbrev pub script_report : Script → ScriptAnswers → List ℕ
-script_report script found = answer_lines script.lines found.answers ++ ended_line found.rolled_back script.name
+abbrev pub script_report : (are_kept : Bool) → Script → ScriptAnswers → List ℕ
+script_report are_kept script found =
+    lines_of are_kept script.lines found ++ ended_line found.rolled_back script.name
 
 -- what is reported of all scripts, one script behind the other
-abbrev pub all_script_reports : List Script → List ScriptAnswers → List ℕ
-all_script_reports [] found = []
-all_script_reports (script ∷ rest) [] = []
-all_script_reports (script ∷ rest) (one ∷ more) = script_report script one ++ all_script_reports rest more
+abbrev pub all_script_reports : (are_kept : Bool) → List Script → List ScriptAnswers → List ℕ
+all_script_reports are_kept [] found = []
+all_script_reports are_kept (script ∷ rest) [] = []
+all_script_reports are_kept (script ∷ rest) (one ∷ more) =
+    script_report are_kept script one ++ all_script_reports are_kept rest more
 
 -- the whole report: what is reported of each script, and the closing part
-abbrev pub grouped_report : List Script → List ScriptAnswers → CoreState → List ℕ
-grouped_report scripts found core = all_script_reports scripts found ++ closing_part_of core
+abbrev pub grouped_report : (are_kept : Bool) → List Script → List ScriptAnswers → CoreState → List ℕ
+grouped_report are_kept scripts found core = all_script_reports are_kept scripts found ++ closing_part_of core
+
+-- so many commits are those before the number of the next, if they are counted as they are kept
+abbrev pub AreAsMany : (count : ℕ) → (next : Option ℕ) → Type 0
+AreAsMany count None = ⊤
+AreAsMany count (Some next) = count + 1 ≡ next
 
 -- whether each script was run
 abbrev pub all_ran : List ScriptAnswers → Bool
@@ -50,7 +58,7 @@ pub record IsGroupedReport (defs script : List ℕ) (limit : ℕ) (all : Bool) (
   pub ran : all_ran found ≡ all
   pub over : IsOver core shown limit
   pub serializable : IsSerializable core
-  pub prints : bytes ≡ grouped_report (scripts_of lines) found core
+  pub prints : bytes ≡ grouped_report false (scripts_of lines) found core
 
 -- the writer gained the report and nothing else
 pub record WritesGrouped (defs script : List ℕ) (limit : ℕ) (all : Bool) (old new : Option (List ℕ)) : Type 0 where
@@ -58,14 +66,16 @@ pub record WritesGrouped (defs script : List ℕ) (limit : ℕ) (all : Bool) (ol
   pub is : IsGroupedReport defs script limit all bytes
   pub written : Appends old new bytes
 
--- the same, of scripts that were run and of what was found of them
-pub record PrintsGrouped (scripts : List Script) (found : List ScriptAnswers) (loaded : ViewState) (limit : ℕ) (all : Bool)
-    (old new : Option (List ℕ)) : Type 0 where
+-- The same, of scripts that were run and of what was found of them. Where commits are kept, those of the report are as
+-- many as were.
+pub record PrintsGrouped (scripts : List Script) (found : List ScriptAnswers) (loaded : ViewState) (limit : ℕ)
+    (next : Option ℕ) (all : Bool) (old new : Option (List ℕ)) : Type 0 where
   pub core : CoreState
   pub over : IsOver core loaded limit
   pub serializable : IsSerializable core
+  pub as_many : AreAsMany (length core.records) next
   pub ran : all_ran found ≡ all
-  pub written : Appends old new (grouped_report scripts found core)
+  pub written : Appends old new (grouped_report (is_some next) scripts found core)
 
 -- both texts are read, the definitions are admitted, as these tables, and these are the scripts of the sessions, which
 -- are few

@@ -1,5 +1,5 @@
 -- What a line of a session is answered, as far as it is known without the commits, and which transaction is open then.
-use Rattle.std.specs.Prelude.{◌≡◌, ◌≤◌, ◌<◌, ◌⊎◌, ℕ, Bool, true, false, List, [], ◌∷◌, Option, Some, None, is_some}
+use Rattle.std.specs.Prelude.{◌≡◌, ◌≤◌, ◌<◌, ◌⊎◌, ℕ, Bool, true, false, List, [], ◌∷◌, Option, Some, None, is_some, ⊤}
 use Rattle.value.specs.declared.refusals.Refusal.TheVariants.{NoMemory, NoTransaction, Stranger, TransactionOpen}
 use Rattle.syntax.specs.declared.statements.Statement.{Statement}
 use Rattle.syntax.specs.declared.statements.Event.{Event}
@@ -69,6 +69,11 @@ IsTold IsNew Commit seen None answer txn = IsOutside answer txn
 IsTold IsNew Commit seen (Some t) answer txn = IsCommitted seen t answer txn
 IsTold IsNew Rollback seen None answer txn = IsOutside answer txn
 IsTold IsNew Rollback seen (Some t) answer txn = IsRolledBack t answer txn
+
+-- A line that is marked is a COMMIT that is accepted and could not be kept: it is refused as for want of memory.
+abbrev pub IsMarked : Event → Answer → (is_unkept : Bool) → Type 0
+IsMarked event answer true = (event ≡ Commit) × (answer ≡ Refused NoMemory)
+IsMarked event answer false = ⊤
 
 -- the greatest number that the session has seen then
 abbrev pub seen_after : Answer → ℕ → ℕ

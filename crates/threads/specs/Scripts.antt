@@ -19,7 +19,13 @@ AreFor false rolled_back lines answers = IsUnrun answers × (rolled_back ≡ fal
 -- the answer of a script that got no thread
 abbrev pub answers_without_thread : Script → ScriptAnswers
 answers_without_thread script =
-    record { name = script.name; answers = Refused TooManySessions ∷ []; ran = false; rolled_back = false }
+    record {
+      name = script.name;
+      answers = Refused TooManySessions ∷ [];
+      ran = false;
+      rolled_back = false;
+      unkept = [];
+    }
 
 -- what was found of a script bears its name, and has an answer for each of its lines if it was run
 pub record IsAnswered (script : Script) (found : ScriptAnswers) : Type 0 where

@@ -76,7 +76,7 @@ where
         Err(_) => return Err(ProgramFault::Script(Refusal::NoMemory)),
     };
     let history = manager.close();
-    let printed = print_report(&history, scripts.as_slice(), answered.as_slice(), out);
+    let printed = print_report(&history, None, scripts.as_slice(), answered.as_slice(), out);
     // (to let 100,000 versions of tables go one by one takes a third of a run, and the process ends behind it)
     forget(history);
     forget(answered);
@@ -115,7 +115,7 @@ fn open_manager<N: Named, R: Wait>(
 }
 
 /// So many commits, and as many sessions as a script may have.
-fn limits_of(max_commits: u32) -> Limits
+pub(crate) fn limits_of(max_commits: u32) -> Limits
     requires some { 1 ≤ max_commits }
     ensures { result ≡ record { commits = max_commits; sessions = most_sessions } }
 {
@@ -127,7 +127,10 @@ fn limits_of(max_commits: u32) -> Limits
 
 /// The scripts of the sessions, if they are 256 or fewer.
 #[tactic(auto, using(crate::proofs::Collecting::few, crate::proofs::Collecting::many))]
-fn require_few_scripts(alloc: Global, lines: Items<ScriptLine>) -> Result<Vec<Script>, Refusal>
+pub(crate) fn require_few_scripts(
+    alloc: Global,
+    lines: Items<ScriptLine>,
+) -> Result<Vec<Script>, Refusal>
     ensures grouped { IfOk result (λ scripts. scripts.items ≡ scripts_of lines) }
     ensures few { IfOk result (λ _. HasFewSessions lines) }
     ensures refused { IfErr result (λ refusal.

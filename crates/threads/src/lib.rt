@@ -12,19 +12,25 @@
 //! without one. A [`Gate`] is called round each line, so that a test can hold a thread where it wants the others to
 //! pass.
 //!
+//! [`threads_on_journal`] runs scripts on what a journal holds. A [`Keeping`], under a lock of its own, keeps each
+//! commit before it counts (`specs/Keeping`), so that every transaction begins on commits that are on the disk; and
+//! what is written is said as of a run without one (`specs/Kept`).
+//!
 //! What may be rested on of a run: there is an answer for each line of each script, or the one refusal of a script that
 //! got no thread or no session (`specs/Scripts`); what a line is answered, as far as it is known without the commits,
 //! is said where it is run (`specs/Lines`). A scope says nothing of what its threads wrote, so that the answers are
 //! those of the manager is tested, and not proved.
 //!
-//! The modules, from the top down: `engine` is the whole; `printing` the report; `grouping` the scripts of the
-//! sessions; `runs` the threads, and `lines` the lines of one; `gates` what is called round each; `scripts` what goes
-//! in and comes out.
+//! The modules, from the top down: `engine` is the whole, and `journals` the whole on a journal; `printing` the report;
+//! `grouping` the scripts of the sessions; `runs` the threads, and `lines` the lines of one; `keeping` who keeps their
+//! commits; `gates` what is called round each line; `scripts` what goes in and comes out.
 #![tactic(auto)]
 
 mod engine;
 mod gates;
 mod grouping;
+mod journals;
+mod keeping;
 mod lines;
 mod printing;
 mod runs;
@@ -32,6 +38,7 @@ mod scripts;
 
 pub use engine::threads_into;
 pub use gates::{Free, Gate};
+pub use journals::{read_scripts, threads_on_journal};
 pub use printing::print_report;
 pub use runs::run_sessions;
 pub use scripts::{Script, ScriptAnswers};

@@ -7,9 +7,11 @@ ghost use Rattle.threads.specs.Scripts.{AreAnswered, IsAnswered, answers_without
 ghost use Rattle.threads.specs.Lines.{AreTold, IsScriptRun};
 
 use crate::gates::Gate;
+use crate::keeping::Commits;
 use crate::lines::{LineOutcome, end, run_event};
 use crate::scripts::{Script, ScriptAnswers};
 use alone::Answer;
+use journal::{Device, Memory};
 use session::{Manager, Named, Session, Txn};
 use sqlite_items::Items;
 use std::alloc::{AllocError, Global};
@@ -25,13 +27,23 @@ struct Room {
     answers: Vec<Answer>,
     refusal: Option<Refusal>,
     rolled_back: bool,
+    /// For each line, whether it is a COMMIT that could not be kept.
+    unkept: Vec<bool>,
+}
+
+/// What the threads of all scripts share.
+#[derive(Drop)]
+struct Stage<'a, N: Named, R, G, D: Device> {
+    rt: &'a R,
+    manager: &'a Manager<N>,
+    commits: &'a Commits<D>,
+    gate: &'a G,
 }
 
 /// Runs each script on a thread of its own, with a session of its name, and gives what each was answered in the
 /// scripts' order. A transaction that is open at a script's end is rolled back. A script that gets no thread, or no
 /// session, is not run; the others are. Gates may hold threads, for which nothing of this call returning is
 /// claimed. An error is that there is no room for all lists of answers. Nothing was then run.
-#[tactic(auto, using(crate::proofs::Lists::all_unrun))]
 pub fn run_sessions<N: Named + Send + Sync, R: Threads + Wait + Sync, G: Gate + Sync>(
     rt: &R,
     alloc: Global,
@@ -39,6 +51,26 @@ pub fn run_sessions<N: Named + Send + Sync, R: Threads + Wait + Sync, G: Gate + 
     scripts: &[Script],
     gate: &G,
 ) -> Result<Vec<ScriptAnswers>, AllocError>
+    ensures { IfOk result (λ answered. AreAnswered scripts.now answered.items) }
+{
+    run_sessions_kept::<N, R, G, Memory>(rt, alloc, manager, &Commits::AtOnce, scripts, gate)
+}
+
+/// Runs each script as [`run_sessions`] does, but a commit counts only once it is kept, where commits are kept.
+#[tactic(auto, using(crate::proofs::Lists::all_unrun))]
+pub fn run_sessions_kept<N, R, G, D>(
+    rt: &R,
+    alloc: Global,
+    manager: &Manager<N>,
+    commits: &Commits<D>,
+    scripts: &[Script],
+    gate: &G,
+) -> Result<Vec<ScriptAnswers>, AllocError>
+where
+    N: Named + Send + Sync,
+    R: Threads + Wait + Sync,
+    G: Gate + Sync,
+    D: Device + Send,
     ensures { IfOk result (λ answered. AreAnswered scripts.now answered.items) }
 {
     let mut answered = answer_all_unrun(alloc, scripts)?;
@@ -52,9 +84,18 @@ pub fn run_sessions<N: Named + Send + Sync, R: Threads + Wait + Sync, G: Gate + 
             requires shares { IsSync N.row }
             requires runtime { IsSync R.row }
             requires gate { IsSync G.row }
+            requires device { IsSend D.row }
         {
             for ((at, script), room) in scripts.iter().enumerate().zip(rooms.iter_mut()) {
-                let _ = scope.spawn(move || run_script(rt, manager, script, at, gate, room));
+                let _ = scope.spawn(move || {
+                    let stage = Stage {
+                        rt,
+                        manager,
+                        commits,
+                        gate,
+                    };
+                    run_script(&stage, script, at, room)
+                });
             }
         },
     );
@@ -83,6 +124,7 @@ fn answer_unrun(alloc: Global, script: &Script) -> Result<ScriptAnswers, AllocEr
         answers,
         ran: false,
         rolled_back: false,
+        unkept: Items::new(alloc),
     })
 }
 
@@ -100,30 +142,31 @@ fn make_room(alloc: Global, lines: usize) -> Result<Room, AllocError> {
         answers: Vec::with_capacity(alloc, lines)?,
         refusal: Some(Refusal::TooManySessions),
         rolled_back: false,
+        unkept: Vec::with_capacity(alloc, lines)?,
     })
 }
 
 /// Runs a script in a session of its name. Where it leaves no refusal, its answers chain from outside a transaction.
-fn run_script<N: Named, R: Wait, G: Gate>(
-    rt: &R,
-    manager: &Manager<N>,
+fn run_script<N: Named, R: Wait, G: Gate, D: Device>(
+    stage: &Stage<'_, N, R, G, D>,
     script: &Script,
     at: usize,
-    gate: &G,
     room: &mut Room,
 )
     ensures { room.new.refusal ≡ None
-        → IsScriptRun (IsFresh (N.shelf manager.now.id) manager.now.id manager.now.epoch)
+        → IsScriptRun
+        (IsFresh (N.shelf stage.now.manager.now.id) stage.now.manager.now.id stage.now.manager.now.epoch)
         script.now.lines room.new.answers.items room.new.rolled_back }
 {
     let lines = script.lines.as_slice();
     room.answers.clear();
+    room.unkept.clear();
     // (there is room already, which is not known here of what another thread has made)
-    if room.answers.reserve(lines.len()).is_err() {
+    if room.answers.reserve(lines.len()).is_err() || room.unkept.reserve(lines.len()).is_err() {
         room.refusal = Some(Refusal::NoMemory);
         return;
     }
-    let mut session = match manager.session(rt, &script.name) {
+    let mut session = match stage.manager.session(stage.rt, &script.name) {
         Ok(session) => session,
         Err(refusal) => {
             room.refusal = Some(refusal);
@@ -131,44 +174,48 @@ fn run_script<N: Named, R: Wait, G: Gate>(
         }
     };
     room.refusal = None;
-    let open = run_lines(
-        rt,
-        manager,
-        &mut session,
-        lines,
-        at,
-        gate,
-        &mut room.answers,
-    );
-    room.rolled_back = end(rt, manager, open);
+    let open = run_lines(stage, &mut session, lines, at, room);
+    room.rolled_back = end(stage.rt, stage.manager, open);
 }
 
 /// Runs the lines of a script in a session that has seen nothing, and notes what each was answered. The transaction
 /// that is open behind the last is handed on.
-fn run_lines<N: Named, R: Wait, G: Gate>(
-    rt: &R,
-    manager: &Manager<N>,
+fn run_lines<N: Named, R: Wait, G: Gate, D: Device>(
+    stage: &Stage<'_, N, R, G, D>,
     session: &mut Session<N>,
     lines: &[ScriptLine],
     at: usize,
-    gate: &G,
-    answers: &mut Vec<Answer>,
+    room: &mut Room,
 ) -> Option<Txn<N>>
     requires new { session.old.seen ≡ 0 }
-    requires none { answers.old.items ≡ [] }
-    requires room { length lines.now ≤ vec_capacity answers.old }
-    ensures { AreTold (IsFresh (N.shelf manager.now.id) manager.now.id manager.now.epoch)
-        lines.now 0 None answers.new.items result }
+    requires none { room.old.answers.items ≡ [] }
+    requires unmarked { room.old.unkept.items ≡ [] }
+    requires room { length lines.now ≤ vec_capacity room.old.answers }
+    requires marks { length lines.now ≤ vec_capacity room.old.unkept }
+    ensures { AreTold (IsFresh (N.shelf stage.now.manager.now.id) stage.now.manager.now.id stage.now.manager.now.epoch)
+        lines.now 0 None room.new.answers.items result }
 {
     let mut open: Option<Txn<N>> = None;
     for line in lines {
-        let place = answers.len();
-        gate.before(at, place);
-        let outcome = run_event(rt, manager, session, open, &line.event);
-        let LineOutcome { answer, txn: next } = outcome;
+        let place = room.answers.len();
+        stage.gate.before(at, place);
+        let outcome = run_event(
+            stage.rt,
+            stage.manager,
+            stage.commits,
+            session,
+            open,
+            &line.event,
+        );
+        let LineOutcome {
+            answer,
+            txn: next,
+            is_unkept,
+        } = outcome;
         open = next;
-        answers.push_reserved(answer);
-        gate.after(at, place);
+        room.answers.push_reserved(answer);
+        room.unkept.push_reserved(is_unkept);
+        stage.gate.after(at, place);
     }
     open
 }
@@ -204,9 +251,13 @@ fn settle(script: &Script, answered: &mut ScriptAnswers, room: Room)
         answers,
         refusal,
         rolled_back,
+        unkept,
     } = room;
     match refusal {
-        None => take_over(script, answered, answers, rolled_back),
+        None => {
+            answered.unkept = Items::from_vec(unkept);
+            take_over(script, answered, answers, rolled_back);
+        }
         Some(Refusal::NoMemory) => say_no_memory(script, answered),
         Some(_) => {}
     }

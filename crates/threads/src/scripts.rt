@@ -22,4 +22,7 @@ pub struct ScriptAnswers {
     pub ran: bool,
     /// Whether a transaction was open at the end, and so was rolled back.
     pub rolled_back: bool,
+    /// For each line in turn whether it is a COMMIT that is accepted and could not be kept. Such a one is answered as
+    /// for want of memory, since nothing has changed. None behind the last, and so without a journal, is one.
+    pub unkept: Items<bool>,
 }

@@ -37,7 +37,7 @@ from typing import (
 from . import _library
 from ._layout import COUNT, UNDONE, Fault, Reader, State, number_bytes, parameter_bytes, text_bytes
 from ._numbers import LAYOUT, Kind, Operation, Status
-from ._refusals import EPOCH_FULL, NO_TRANSACTION, TOO_MANY_SESSIONS, error_of, tell
+from ._refusals import EPOCH_FULL, NO_TRANSACTION, TOO_MANY_SESSIONS, error_of, refusal, tell
 from ._texts import taken
 from .errors import Error, JournalError, OperationalError, ReplyLost, Value
 from .rows import Result, row_type
@@ -308,7 +308,8 @@ class Engine:
 
     def _put_image(self) -> int:
         """The same, under the lock: 0, or an errno."""
-        return self._library.skewguard_journal_checkpoint(self._handle) if self._is_journaled else 0
+        error: int = self._library.skewguard_journal_checkpoint(self._handle) if self._is_journaled else 0
+        return error
 
     def _set_checkpoint_bytes(self, count: int) -> None:
         """How long the commits in a journal's file may become. The engine is new, and nobody calls it."""
@@ -531,7 +532,8 @@ class Engine:
 
     def _take(self, session: Session, owner: Any, seat: Seat) -> None:
         """Gives a session to the transaction of a seat, for as long as there is its owner."""
-        use = Use(owner, self._put_aside.append)
+        # The reference that Python hands to the function is this one, a Use.
+        use = Use(owner, self._put_aside.append)  # type: ignore[arg-type]
         use.seat = seat
         seat.session, seat.use = session, use
         session.use = use
@@ -640,7 +642,7 @@ class Engine:
         if seat.state != State.OPEN:
             return
         if reply[0] == Kind.REFUSAL:
-            self._note_refusal(seat, error_of(Status.REFUSED, reply))
+            self._note_refusal(seat, refusal(reply, None))
         else:
             self._note(seat, reply)
 

@@ -3,6 +3,7 @@
 from __future__ import annotations
 
 import os
+from importlib import import_module
 from typing import Any, Optional
 
 __all__ = ["native"]
@@ -13,10 +14,9 @@ def _native() -> Optional[Any]:
     if os.environ.get("SKEWGUARD_CTYPES") == "1":
         return None
     try:
-        from . import _native as module
+        return import_module("._native", __package__)
     except ImportError:
         return None
-    return module
 
 
 native = _native()

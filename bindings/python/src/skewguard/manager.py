@@ -20,6 +20,7 @@ from typing import (
     Type,
     TypeVar,
     Union,
+    cast,
 )
 
 from . import _backend
@@ -108,10 +109,11 @@ def _told(trace: Optional[Callable[[str], Any]], log: Optional[logging.Logger]) 
     """What is told each line, for a trace and a log."""
     if log is None or not log.isEnabledFor(logging.INFO):
         return trace
+    logger = log
 
     def tell(line: str) -> None:
         is_refused = ": REFUSED " in line.partition("\n")[0]
-        log.log(logging.INFO if is_refused else logging.DEBUG, "%s", line)
+        logger.log(logging.INFO if is_refused else logging.DEBUG, "%s", line)
         if trace is not None:
             trace(line)
 
@@ -160,9 +162,10 @@ class Manager(_backend.Engine):
         them by `manager.transaction(retry=3).run(function, ..)`.
         """
         given = {"retry": retry, "read_only": read_only, "session": session}
-        options = {name: value for name, value in given.items() if value is not None}
+        options: Dict[str, Any] = {name: value for name, value in given.items() if value is not None}
         _check_names(function, options)
-        return self.transaction(**{"retry": 3, **options}).run(function, *arguments, **named)
+        options.setdefault("retry", 3)
+        return self.transaction(**options).run(function, *arguments, **named)
 
     def run_transaction(
         self, steps: Iterable[Tuple[str, Values]], *, retry: int = 3, session: Optional[str] = None
@@ -181,7 +184,7 @@ class Manager(_backend.Engine):
 
         session: as of `transaction`.
         """
-        taken_steps = [step if _is_step(step) else _step(*step) for step in steps]
+        taken_steps = [_taken_step(step) for step in steps]
         left = _checked_retry(retry)
         is_long = len(taken_steps) > MOST_TEXTS and len({text for text, _ in taken_steps}) > MOST_TEXTS
         while True:
@@ -348,7 +351,7 @@ class Transaction(_backend.Transaction):
 
 def _run(like: Transaction, function: Callable[..., T], arguments: Tuple[Any, ...], named: Dict[str, Any]) -> T:
     """What a function gives, once the transaction that it was called with has committed."""
-    manager = like._engine
+    manager = cast(Manager, like._engine)
     for left in range(like._retry, -1, -1):
         try:
             with manager.transaction(read_only=like._read_only, session=like._name) as transaction:
@@ -369,6 +372,12 @@ def _run(like: Transaction, function: Callable[..., T], arguments: Tuple[Any, ..
 def _is_step(step: Any) -> bool:
     """Whether a step is as the library takes it."""
     return type(step) is tuple and len(step) == 2 and type(step[0]) is str and type(step[1]) in (list, tuple)
+
+
+def _taken_step(step: Any) -> Tuple[str, Sequence[Any]]:
+    """A step as the library takes it."""
+    taken_step: Tuple[str, Sequence[Any]] = step if _is_step(step) else _step(*step)
+    return taken_step
 
 
 def _step(sql: str, values: Values = ()) -> Tuple[str, Sequence[Any]]:

@@ -71,8 +71,8 @@ def row_type(columns: Tuple[str, ...]) -> Type[Row]:
     The columns are attributes too, as they are written in the table: in upper case, in which no method is.
     """
     places = {name: place for place, name in reversed(list(enumerate(columns)))}
-    values = {name: property(itemgetter(place)) for name, place in places.items()}
-    return type("Row", (Row,), {**values, "__slots__": (), "columns": columns, "_places": places})
+    members: Dict[str, Any] = {name: property(itemgetter(place)) for name, place in places.items()}
+    return type("Row", (Row,), {**members, "__slots__": (), "columns": columns, "_places": places})
 
 
 def _row_of(columns: Tuple[str, ...], values: Tuple[Value, ...]) -> Row:

@@ -1,4 +1,4 @@
-use Rattle.std.proofs.Common.{◌≡◌, true, false, ap, ◌∙◌, subst, rules}
+use Rattle.std.proofs.Common.{◌≡◌, None, true, false, ap, ◌∙◌, subst, rules}
 use Rattle.std.specs.Prelude.{OnOk, IfErr}
 use Rattle.replay.specs.declared.faults.ProgramFault.TheVariants.{NoThread}
 use Rattle.replay.specs.Texts.{is_before_the_run}
@@ -30,10 +30,10 @@ returns-clause-written g c =
     let loaded = ap (λ (t : Token). t.value.view) c.close-history.ensures.loaded in
     let limit = ap (λ n. (limits n).commits) (c.close-history.ensures.whose.0 ∙ c.in_ok-manager.ensures.id) ∙ ap (λ (l : LimitsState). l.commits) c.requires.limits in
     reports _ _ _ _ _ c.in_ok-manager.ensures.opened printed found old new answered
-    (subst (λ n. OnOk printed (PrintsGrouped scripts found c.in_ok-manager.manager.loaded.value.view n true old new)) limit
-    (subst (λ view. OnOk printed (PrintsGrouped scripts found view (limits history.id).commits true old new)) loaded
-    (subst (λ lent. OnOk printed (PrintsGrouped lent found history.loaded.value.view (limits history.id).commits true old new)) c.as_slice-2.ensures.value
-    (subst (λ lent. OnOk printed (PrintsGrouped c.as_slice-2.result.now lent history.loaded.value.view (limits history.id).commits true old new)) c.as_slice-3.ensures.value
+    (subst (λ n. OnOk printed (PrintsGrouped scripts found c.in_ok-manager.manager.loaded.value.view n None true old new)) limit
+    (subst (λ view. OnOk printed (PrintsGrouped scripts found view (limits history.id).commits None true old new)) loaded
+    (subst (λ lent. OnOk printed (PrintsGrouped lent found history.loaded.value.view (limits history.id).commits None true old new)) c.as_slice-2.ensures.value
+    (subst (λ lent. OnOk printed (PrintsGrouped c.as_slice-2.result.now lent history.loaded.value.view (limits history.id).commits None true old new)) c.as_slice-3.ensures.value
     c.print_report-printed.ensures.written))))
 
 pub returns-clause-no_thread : goal.returns-clause-no_thread
@@ -50,9 +50,9 @@ returns-clause-no_thread g c =
     let loaded = ap (λ (t : Token). t.value.view) c.close-history.ensures.loaded in
     let limit = ap (λ n. (limits n).commits) (c.close-history.ensures.whose.0 ∙ c.in_ok-manager.ensures.id) ∙ ap (λ (l : LimitsState). l.commits) c.requires.limits in
     reports_unrun _ _ _ _ _ c.in_ok-manager.ensures.opened printed found old new answered
-    (subst (λ n. IfErr printed (λ fault. fault ≡ NoThread → PrintsGrouped scripts found c.in_ok-manager.manager.loaded.value.view n false old new)) limit
-    (subst (λ view. IfErr printed (λ fault. fault ≡ NoThread → PrintsGrouped scripts found view (limits history.id).commits false old new)) loaded
-    (subst (λ lent. IfErr printed (λ fault. fault ≡ NoThread → PrintsGrouped lent found history.loaded.value.view (limits history.id).commits false old new)) c.as_slice-2.ensures.value
+    (subst (λ n. IfErr printed (λ fault. fault ≡ NoThread → PrintsGrouped scripts found c.in_ok-manager.manager.loaded.value.view n None false old new)) limit
+    (subst (λ view. IfErr printed (λ fault. fault ≡ NoThread → PrintsGrouped scripts found view (limits history.id).commits None false old new)) loaded
+    (subst (λ lent. IfErr printed (λ fault. fault ≡ NoThread → PrintsGrouped lent found history.loaded.value.view (limits history.id).commits None false old new)) c.as_slice-2.ensures.value
     (subst (λ lent. IfErr printed (λ fault. fault ≡ NoThread
-    → PrintsGrouped c.as_slice-2.result.now lent history.loaded.value.view (limits history.id).commits false old new))
+    → PrintsGrouped c.as_slice-2.result.now lent history.loaded.value.view (limits history.id).commits None false old new))
     c.as_slice-3.ensures.value c.print_report-printed.ensures.no_thread))))

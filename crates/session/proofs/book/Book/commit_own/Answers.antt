@@ -59,7 +59,7 @@ returns-in-Err-clause-reason g c =
     c.refuse_commit.ensures.shown
     ∙ (ap (λ (ts : List Token). shown_unless c.in-Err.fault.txn (shown_among ts c.self.inside.id c.self.inside.epoch c.count-count.result c.in-Err.fault.refusal)) (c.as_slice.ensures.value ∙ c.in-Err.ensures.same)
     ∙ ap (λ (n : ℕ). shown_unless c.in-Err.fault.txn (shown_among c.self.inside.tokens.items c.self.inside.id c.self.inside.epoch n c.in-Err.fault.refusal)) count) in
-    let id : c.self.inside.id ≡ c.args.id = ap (λ (s : BookState). s.id) c.self.view_is ∙ c.requires.id in
+    let id : c.self.inside.id ≡ c.args.asker.now.id = ap (λ (s : BookState). s.id) c.self.view_is ∙ c.requires.id in
     let reason = refused_reason _ _ book c.self.invariant log c.args.session.now.name closed declared c.in-Err.fault.refusal c.in-Err.fault.txn c.append.new.core c.in-Err.ensures.refused in
     subst (λ (n : ℕ). IsReason (g.N.Named.limits n).commits c.args.session.now.name c.args.closed.inner c.refuse_commit.result.refusal c.refuse_commit.result.shown) id
     (subst (λ (x : TicketedTransaction). IsReason (g.N.Named.limits c.self.inside.id).commits c.args.session.now.name x.inner c.refuse_commit.result.refusal c.refuse_commit.result.shown) c.closed.view_is
@@ -68,16 +68,16 @@ returns-in-Err-clause-reason g c =
 
 pub returns-in-Err-clause-shown : goal.returns-in-Err-clause-shown
 returns-in-Err-clause-shown g c =
-    let id : c.self.inside.id ≡ c.args.id = ap (λ (s : BookState). s.id) c.self.view_is ∙ c.requires.id in
-    let epoch : c.self.inside.epoch ≡ c.args.epoch = ap (λ (s : BookState). s.epoch) c.self.view_is ∙ c.requires.epoch in
-    subst (λ n. AreShownBy n c.args.epoch c.refuse_commit.result.shown) id
+    let id : c.self.inside.id ≡ c.args.asker.now.id = ap (λ (s : BookState). s.id) c.self.view_is ∙ c.requires.id in
+    let epoch : c.self.inside.epoch ≡ c.args.asker.now.epoch = ap (λ (s : BookState). s.epoch) c.self.view_is ∙ c.requires.epoch in
+    subst (λ n. AreShownBy n c.args.asker.now.epoch c.refuse_commit.result.shown) id
     (subst (λ n. AreShownBy c.self.inside.id n c.refuse_commit.result.shown) epoch c.refuse_commit.ensures.by)
 
 pub invariant_of-self-2 : goal.invariant_of-self-2
 invariant_of-self-2 g c =
     let book : BookState = record { core = c.self.inside.core; id = c.self.inside.id; epoch = c.self.inside.epoch; tokens = c.self.inside.tokens.items; handed = c.self.inside.handed; most = c.self.inside.most } in
-    let id : c.self.inside.id ≡ c.args.id = ap (λ (s : BookState). s.id) c.self.view_is ∙ c.requires.id in
-    let epoch : c.self.inside.epoch ≡ c.args.epoch = ap (λ (s : BookState). s.epoch) c.self.view_is ∙ c.requires.epoch in
+    let id : c.self.inside.id ≡ c.args.asker.now.id = ap (λ (s : BookState). s.id) c.self.view_is ∙ c.requires.id in
+    let epoch : c.self.inside.epoch ≡ c.args.asker.now.epoch = ap (λ (s : BookState). s.epoch) c.self.view_is ∙ c.requires.epoch in
     let made = c.in-Ok.ensures in
     let token = c.in-Ok.made.token in
     let log = subst (λ (k : CoreState). IsLog (log_of k)) made.after made.log in
