@@ -3,12 +3,11 @@
 ghost use Rattle.std.specs.Prelude.{◌≤◌};
 
 use crate::happenings::add_event;
-use crate::stories::Story;
-use history::{History, Source, read_history};
-use printout::Printout;
+use crate::stories::{Story, Texts};
+use history::{History, read_history};
+use printout::{Printout, Unwritten};
 use replay::ProgramFault;
 use std::alloc::{AllocError, Global};
-use std::io;
 use std::io::Write;
 use thiserror::Error;
 
@@ -29,9 +28,12 @@ impl From<AllocError> for ExplainFault {
     }
 }
 
-impl From<io::Error> for ExplainFault {
-    fn from(error: io::Error) -> ExplainFault {
-        ExplainFault::Run(ProgramFault::from(error))
+impl From<Unwritten> for ExplainFault {
+    fn from(unwritten: Unwritten) -> ExplainFault {
+        ExplainFault::Run(match unwritten {
+            Unwritten::NoMemory => ProgramFault::Stopped,
+            Unwritten::Output => ProgramFault::Output,
+        })
     }
 }
 
@@ -43,6 +45,7 @@ impl From<io::Error> for ExplainFault {
 /// [`ExplainFault::Run`] with the first fault before the run, as `replay::replay_into` answers it, and the writer is
 /// then as it was; or with `Stopped` where memory ends the run, or `Output` at the first fault of the writer.
 /// [`ExplainFault::NoEvent`] where there is no event of that number; the writer is then as it was.
+// (what is run, as for all that run a script, which event is asked for, and where the answer goes)
 pub fn explain_into<W: Write>(
     alloc: Global,
     defs: &[u8],
@@ -52,32 +55,23 @@ pub fn explain_into<W: Write>(
     out: &mut W,
 ) -> Result<(), ExplainFault> {
     let mut history = History::new(alloc);
+    let mut texts = Texts::new(alloc, defs, script);
     match read_history(alloc, defs, script, max_commits, &mut history) {
-        Ok(()) => explain_history(alloc, &history, defs, script, event, out),
+        Ok(()) => explain_history(alloc, &history, &mut texts, event, out),
         Err(fault) => Err(ExplainFault::Run(fault)),
     }
 }
 
-/// Explains what happened when these texts were run.
+/// Explains what happened when these texts were run, which were not read yet.
 fn explain_history<W: Write>(
     alloc: Global,
     history: &History,
-    defs: &[u8],
-    script: &[u8],
+    texts: &mut Texts<'_>,
     event: Option<u64>,
     out: &mut W,
 ) -> Result<(), ExplainFault> {
-    let mut definitions = Source::new(alloc);
-    let mut events = Source::new(alloc);
-    definitions.read(alloc, defs)?;
-    events.read(alloc, script)?;
-    let story = Story {
-        history,
-        defs,
-        definitions: &definitions,
-        script,
-        events: &events,
-    };
+    texts.read(alloc)?;
+    let story = Story { history, texts };
     match event {
         Some(number) => explain_number(alloc, story, number, out),
         None => explain_refused(alloc, story, out),
@@ -96,8 +90,8 @@ fn explain_number<W: Write>(
         return Err(ExplainFault::NoEvent(count));
     }
     let mut text = Printout::new(alloc);
-    explain_one(alloc, story, (number - 1) as usize, &mut text, out)?;
-    Ok(out.flush()?)
+    add_event(alloc, story, (number - 1) as usize, &mut text)?;
+    Ok(text.finish_into(out)?)
 }
 
 /// Explains each event that was refused.
@@ -110,26 +104,13 @@ fn explain_refused<W: Write>(
     let mut is_any = false;
     for (event, happening) in story.history.events.as_slice().iter().enumerate() {
         if happening.is_refused() {
-            explain_one(alloc, story, event, &mut text, out)?;
+            add_event(alloc, story, event, &mut text)?;
+            text.write_into(out)?;
             is_any = true;
         }
     }
     if !is_any {
-        out.write_all(b"no event was refused\n")?;
+        text.add("no event was refused\n");
     }
-    Ok(out.flush()?)
-}
-
-/// Explains an event, by a text that is empty before and afterwards.
-fn explain_one<W: Write>(
-    alloc: Global,
-    story: Story<'_>,
-    event: usize,
-    text: &mut Printout,
-    out: &mut W,
-) -> Result<(), ExplainFault> {
-    add_event(alloc, story, event, text)?;
-    out.write_all(text.text()?.as_bytes())?;
-    text.clear();
-    Ok(())
+    Ok(text.finish_into(out)?)
 }

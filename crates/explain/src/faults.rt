@@ -2,9 +2,10 @@
 
 use crate::conflicts::{add_triple, add_write_conflict};
 use crate::figures::add_violation;
-use crate::stories::{Story, add_number};
+use crate::stories::{Moment, add_number};
+use crate::violations::Violation;
 use delta::View;
-use history::{Happening, Transaction, add_row};
+use history::{Transaction, add_row};
 use printout::Printout;
 use std::alloc::{AllocError, Global};
 use std::fmt::Display;
@@ -14,16 +15,17 @@ use value::{Excess, Refusal, Text, Value};
 /// dangerous triple its conflicts, and else a sentence.
 pub fn add_refusal(
     alloc: Global,
-    story: Story<'_>,
-    event: usize,
-    happening: &Happening,
+    moment: Moment<'_>,
     refusal: &Refusal,
     out: &mut Printout,
 ) -> Result<(), AllocError> {
-    let this = story.transaction_of(event);
-    match (refusal, &happening.view, this) {
+    let story = moment.story;
+    match (refusal, &moment.happening.view, moment.transaction()) {
         (Refusal::Violated { assertion, group }, Some(view), _) => {
-            return add_violation(alloc, story, view, assertion, group, out);
+            return match Violation::of(view, assertion, group) {
+                Some(violation) => add_violation(alloc, story, violation, out),
+                None => Ok(()),
+            };
         }
         (
             Refusal::Dangerous {
@@ -41,7 +43,7 @@ pub fn add_refusal(
             add_sentence(refusal, out);
             add_row_under(view, table, key, out);
         }
-        (Refusal::TransactionOpen, _, _) => add_open(story, event, happening.session, out),
+        (Refusal::TransactionOpen, _, _) => add_open(moment, out),
         (Refusal::ReadOnlyTransaction, _, Some(this)) => add_read_only(this, out),
         _ => add_sentence(refusal, out),
     }
@@ -49,8 +51,9 @@ pub fn add_refusal(
 }
 
 /// Adds since when a transaction is open in a session.
-fn add_open(story: Story<'_>, event: usize, session: usize, out: &mut Printout) {
-    let transactions = story.history.transactions.as_slice();
+fn add_open(moment: Moment<'_>, out: &mut Printout) {
+    let (event, session) = (moment.event, moment.happening.session);
+    let transactions = moment.story.history.transactions.as_slice();
     let open = transactions
         .iter()
         .rfind(|it| it.session == session && it.begun < event);

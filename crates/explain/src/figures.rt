@@ -3,11 +3,12 @@
 use crate::conditions::{Scope, add_condition};
 use crate::parts::{Part, Share, count_in, push_lists, push_parts, push_rows};
 use crate::stories::{MOST_LINES, Story, add_count, add_left_out};
-use assertion::{Assertion, Form};
+use crate::violations::Violation;
+use assertion::Form;
 use delta::View;
 use groups::Total;
 use history::{add_row, add_table, column_name};
-use printout::Printout;
+use printout::{Printout, opening_of};
 use std::alloc::{AllocError, Global};
 use table::{Aggregate, Cond, Expr, Row, SlotValue};
 use value::{Comparison, Root, Text, Value};
@@ -16,38 +17,32 @@ use value::{Comparison, Root, Text, Value};
 pub fn add_violation(
     alloc: Global,
     story: Story<'_>,
-    view: &View,
-    name: &Text,
-    root: &Root,
+    violation: Violation<'_>,
     out: &mut Printout,
 ) -> Result<(), AllocError> {
-    let Some(place) = view.assertions().iter().position(|it| it.name == *name) else {
-        return Ok(());
-    };
-    let Some(assertion) = view.assertions().get(place) else {
-        return Ok(());
-    };
-    add_rule(story, place, out);
-    add_root_line(view, &assertion.form, root, out);
-    add_figures(alloc, view, &assertion.form, root, out)?;
-    add_lists(alloc, view, &assertion.form, root, out)
+    add_rule(story, violation.place, out);
+    add_root_line(violation, out);
+    add_figures(alloc, violation, out)?;
+    add_lists(alloc, violation, out)
 }
 
 /// Adds the text of an assertion, and where it stands.
 fn add_rule(story: Story<'_>, place: usize, out: &mut Printout) {
-    let Some(piece) = story.definitions.assertion(place) else {
+    let definitions = &story.texts.definitions;
+    let Some(piece) = definitions.assertion(place) else {
         return;
     };
     out.add("  the rule, line ");
-    out.show(story.definitions.line(story.defs, piece));
+    out.show(definitions.line(piece));
     out.add(" of DEFS: ");
-    story.definitions.add_piece(story.defs, piece, out);
+    definitions.add_piece(piece, out);
     out.add("\n");
 }
 
 /// Adds where the assertion would be false.
-fn add_root_line(view: &View, form: &Form, root: &Root, out: &mut Printout) {
-    match (form, root) {
+fn add_root_line(violation: Violation<'_>, out: &mut Printout) {
+    let view = violation.view;
+    match (violation.form, violation.root) {
         (Form::ByRow { table, .. }, Root::Of(key)) => {
             out.add("  would be false at row ");
             out.show(key);
@@ -61,23 +56,16 @@ fn add_root_line(view: &View, form: &Form, root: &Root, out: &mut Printout) {
         }
         (Form::ByGroup { table, group, .. }, Root::Of(value)) => {
             out.add("  would be false at ");
-            add_group(view, *table, *group, " ", value, out);
+            add_column_value(column_name(view, *table, *group), " ", value, out);
             out.add("\n");
         }
         _ => out.add("  would be false as a whole\n"),
     }
 }
 
-/// Adds a column, a sign and a value.
-fn add_group(
-    view: &View,
-    table: usize,
-    column: usize,
-    sign: &str,
-    value: &Value,
-    out: &mut Printout,
-) {
-    if let Some(name) = column_name(view, table, column) {
+/// Adds the name of a column, a sign and a value.
+fn add_column_value(name: Option<&Text>, sign: &str, value: &Value, out: &mut Printout) {
+    if let Some(name) = name {
         out.show(name);
         out.add(sign);
         out.show(value);
@@ -87,15 +75,13 @@ fn add_group(
 /// Adds the set functions of an assertion at a root.
 fn add_figures(
     alloc: Global,
-    view: &View,
-    form: &Form,
-    root: &Root,
+    violation: Violation<'_>,
     out: &mut Printout,
 ) -> Result<(), AllocError> {
     let mut parts = Vec::new(alloc);
-    push_parts(view, form, root, &mut parts)?;
+    push_parts(violation, &mut parts)?;
     for (slot, part) in parts.iter().enumerate() {
-        add_figure(alloc, view, form, slot, *part, out)?;
+        add_figure(alloc, violation, slot, *part, out)?;
     }
     Ok(())
 }
@@ -103,48 +89,41 @@ fn add_figures(
 /// Adds a set function with what it would give at the root, and what is asked of it.
 fn add_figure(
     alloc: Global,
-    view: &View,
-    form: &Form,
+    violation: Violation<'_>,
     slot: usize,
     part: Part<'_>,
     out: &mut Printout,
 ) -> Result<(), AllocError> {
     let mut rows = Vec::new(alloc);
-    push_rows(alloc, view, part, &mut rows)?;
+    push_rows(alloc, violation.view, part, &mut rows)?;
     out.add("    ");
-    add_function(view, part.table, part.aggregate, out);
-    add_scope(view, form, part, out);
+    add_function(violation.view, part, out);
+    add_scope(violation, part, out);
     out.add(" would be ");
     add_total(alloc, part.aggregate, rows.as_slice(), out)?;
-    add_demand(form, slot, out);
+    add_demand(violation.form, slot, out);
     out.add("\n");
     Ok(())
 }
 
 /// Adds a set function as SQL writes it.
-fn add_function(view: &View, table: usize, aggregate: Aggregate, out: &mut Printout) {
-    let (word, column) = match aggregate {
-        Aggregate::CountRows => return out.add("COUNT(*)"),
-        Aggregate::Count(column) => ("COUNT(", column),
-        Aggregate::CountDistinct(column) => ("COUNT(DISTINCT ", column),
-        Aggregate::Sum(column) => ("SUM(", column),
-        Aggregate::SumDistinct(column) => ("SUM(DISTINCT ", column),
-        Aggregate::Min(column) => ("MIN(", column),
-        Aggregate::Max(column) => ("MAX(", column),
-    };
-    if let Some(name) = column_name(view, table, column) {
-        out.add(word);
-        out.show(name);
-        out.add(")");
+fn add_function(view: &View, part: Part<'_>, out: &mut Printout) {
+    out.add(opening_of(part.aggregate));
+    if let Some(column) = part.aggregate.column() {
+        if let Some(name) = column_name(view, part.table, column) {
+            out.show(name);
+        }
     }
+    out.add(")");
 }
 
 /// Adds which rows a set function is of.
-fn add_scope(view: &View, form: &Form, part: Part<'_>, out: &mut Printout) {
+fn add_scope(violation: Violation<'_>, part: Part<'_>, out: &mut Printout) {
+    let view = violation.view;
     out.add(" of ");
-    match (form, part.share) {
+    match (violation.form, part.share) {
         (Form::ByGroup { .. }, Share::With { column, value }) => {
-            add_group(view, part.table, column, " ", value, out)
+            add_column_value(column_name(view, part.table, column), " ", value, out)
         }
         _ => add_linked(view, part, out),
     }
@@ -167,7 +146,7 @@ fn add_linked(view: &View, part: Part<'_>, out: &mut Printout) {
         Share::All => {}
         Share::With { column, value } => {
             out.add(" with ");
-            add_group(view, part.table, column, " = ", value, out);
+            add_column_value(column_name(view, part.table, column), " = ", value, out);
         }
         Share::None => out.add(" linked to NULL"),
     }
@@ -278,15 +257,13 @@ fn mirrored_comparison(comparison: Comparison) -> Comparison {
 /// Adds the lists of rows that count at a root.
 fn add_lists(
     alloc: Global,
-    view: &View,
-    form: &Form,
-    root: &Root,
+    violation: Violation<'_>,
     out: &mut Printout,
 ) -> Result<(), AllocError> {
     let mut lists = Vec::new(alloc);
-    push_lists(view, form, root, &mut lists)?;
+    push_lists(violation, &mut lists)?;
     for part in &lists {
-        add_rows(alloc, view, *part, out)?;
+        add_rows(alloc, violation.view, *part, out)?;
     }
     Ok(())
 }

@@ -2,9 +2,11 @@
 
 use crate::conflicts::add_reader;
 use crate::faults::add_refusal;
-use crate::stories::{MOST_LINES, Story, add_count, add_left_out, add_number, add_snapshot};
+use crate::stories::{
+    MOST_LINES, Moment, Story, add_count, add_left_out, add_number, add_snapshot,
+};
 use alone::Answer;
-use history::{End, Happening, Read, Transaction, add_bytes};
+use history::{End, Read, Transaction, add_bytes};
 use printout::Printout;
 use report::write_reply;
 use std::alloc::{AllocError, Global};
@@ -21,14 +23,15 @@ pub fn add_event(
     let Some(script_line) = story.history.lines.as_slice().get(event) else {
         return Ok(());
     };
-    let Some(happening) = story.history.events.as_slice().get(event) else {
+    let Some(moment) = Moment::of(story, event) else {
         return Ok(());
     };
+    let answer = &moment.happening.answer;
     add_heading(story, event, out);
-    add_answer(alloc, script_line, &happening.answer, out)?;
-    match &happening.answer {
-        Answer::Refused(refusal) => add_refusal(alloc, story, event, happening, refusal, out)?,
-        _ => add_done(alloc, story, event, happening, out)?,
+    add_answer(alloc, script_line, answer, out)?;
+    match answer {
+        Answer::Refused(refusal) => add_refusal(alloc, moment, refusal, out)?,
+        _ => add_done(alloc, moment, out)?,
     }
     out.add("\n");
     Ok(())
@@ -38,9 +41,9 @@ pub fn add_event(
 fn add_heading(story: Story<'_>, event: usize, out: &mut Printout) {
     add_number("event ", event, out);
     out.add(", line ");
-    out.show(story.events.line(story.script, event));
+    out.show(story.texts.events.line(event));
     out.add(": ");
-    story.events.add_piece(story.script, event, out);
+    story.texts.events.add_piece(event, out);
     out.add("\n");
 }
 
@@ -61,23 +64,18 @@ fn add_answer(
 }
 
 /// Adds what an event that was not refused rests on.
-fn add_done(
-    alloc: Global,
-    story: Story<'_>,
-    event: usize,
-    happening: &Happening,
-    out: &mut Printout,
-) -> Result<(), AllocError> {
-    let Some(it) = story.transaction_of(event) else {
+fn add_done(alloc: Global, moment: Moment<'_>, out: &mut Printout) -> Result<(), AllocError> {
+    let Some(it) = moment.transaction() else {
         return Ok(());
     };
-    let is_commit = event == it.ended && it.end == End::Committed;
+    let (story, changes) = (moment.story, moment.happening.changes.as_slice());
+    let is_commit = moment.event == it.ended && it.end == End::Committed;
     add_standing(story, it, is_commit, out);
-    add_reads(alloc, story, event, it, out)?;
+    add_reads(alloc, moment, it, out)?;
     if is_commit {
         add_changes(story, "  its net change: ", it.changes.as_slice(), out);
     } else {
-        add_changes(story, "  changed rows: ", happening.changes.as_slice(), out);
+        add_changes(story, "  changed rows: ", changes, out);
     }
     Ok(())
 }
@@ -99,13 +97,13 @@ fn add_standing(story: Story<'_>, it: &Transaction, is_commit: bool, out: &mut P
 /// Adds what an event read, and by whom.
 fn add_reads(
     alloc: Global,
-    story: Story<'_>,
-    event: usize,
+    moment: Moment<'_>,
     it: &Transaction,
     out: &mut Printout,
 ) -> Result<(), AllocError> {
+    let story = moment.story;
     let mut reads = Vec::new(alloc);
-    push_reads(event, it, &mut reads)?;
+    push_reads(moment.event, it, &mut reads)?;
     add_count("  read: ", reads.len(), out);
     for read in reads.as_slice().iter().take(MOST_LINES) {
         out.add("    ");

@@ -23,5 +23,6 @@ mod figures;
 mod happenings;
 mod parts;
 mod stories;
+mod violations;
 
 pub use explaining::{ExplainFault, explain_into};

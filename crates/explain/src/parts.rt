@@ -5,6 +5,7 @@ ghost use Rattle.std.specs.Option.{option_copied};
 ghost use Rattle.table.specs.Bounds.{IsSmallRow, is_bounded};
 ghost use Rattle.value.specs.Ordered.{HoldsOf};
 
+use crate::violations::Violation;
 use assertion::{Form, Link, Query};
 use delta::View;
 use groups::Total;
@@ -76,14 +77,13 @@ impl<'a> Part<'a> {
     }
 }
 
-/// Lists the set functions of an assertion at a root, in the order of the slots of its condition.
+/// Lists the set functions of an assertion at its root, in the order of the slots of its condition.
 pub fn push_parts<'a>(
-    view: &'a View,
-    form: &'a Form,
-    root: &'a Root,
+    violation: Violation<'a>,
     parts: &mut Vec<Part<'a>>,
 ) -> Result<(), AllocError> {
-    match form {
+    let (view, root) = (violation.view, violation.root);
+    match violation.form {
         Form::ByRow { table, queries, .. } => {
             for query in queries.as_slice() {
                 let share = linked_share(view, *table, query.grouping, root);
@@ -151,12 +151,10 @@ fn group_share(column: usize, root: &Root) -> Share<'_> {
     }
 }
 
-/// Lists the rows that an assertion looks at, at a root: of a group one part, however many set functions it has, else
+/// Lists the rows that an assertion looks at, at its root: of a group one part, however many set functions it has, else
 /// one for each.
 pub fn push_lists<'a>(
-    view: &'a View,
-    form: &'a Form,
-    root: &'a Root,
+    violation: Violation<'a>,
     lists: &mut Vec<Part<'a>>,
 ) -> Result<(), AllocError> {
     let Form::ByGroup {
@@ -164,15 +162,15 @@ pub fn push_lists<'a>(
         filter,
         group,
         ..
-    } = form
+    } = violation.form
     else {
-        return push_parts(view, form, root, lists);
+        return push_parts(violation, lists);
     };
     lists.push(Part {
         aggregate: Aggregate::CountRows,
         table: *table,
         filter,
-        share: group_share(*group, root),
+        share: group_share(*group, violation.root),
         around: None,
     })?;
     Ok(())

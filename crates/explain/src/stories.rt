@@ -1,29 +1,65 @@
 //! What is explained, and the lines of an explanation as they grow.
 
-use history::{History, Source, Transaction};
+use history::{Happening, History, Source, Transaction};
 use printout::Printout;
+use std::alloc::{AllocError, Global};
 
 /// Lists are cut after so many lines.
 pub const MOST_LINES: usize = 10;
+
+/// The two texts of a run.
+#[derive(Drop)]
+pub struct Texts<'a> {
+    pub definitions: Source<'a>,
+    pub events: Source<'a>,
+}
+
+impl<'a> Texts<'a> {
+    /// Of definitions and a script, which were not read yet.
+    pub fn new(alloc: Global, defs: &'a [u8], script: &'a [u8]) -> Texts<'a> {
+        Texts {
+            definitions: Source::new(alloc, defs),
+            events: Source::new(alloc, script),
+        }
+    }
+
+    /// Finds the definitions and the events in their texts.
+    pub fn read(&mut self, alloc: Global) -> Result<(), AllocError> {
+        self.definitions.read(alloc)?;
+        self.events.read(alloc)
+    }
+}
 
 /// A run of a script, with the texts that it is of.
 #[derive(Clone, Copy)]
 pub struct Story<'a> {
     pub history: &'a History,
-    pub defs: &'a [u8],
-    pub definitions: &'a Source,
-    pub script: &'a [u8],
-    pub events: &'a Source,
+    pub texts: &'a Texts<'a>,
 }
 
-impl<'a> Story<'a> {
-    /// The transaction in which an event stands.
-    pub fn transaction_of(self, event: usize) -> Option<&'a Transaction> {
-        let happening = self.history.events.as_slice().get(event)?;
-        self.history
-            .transactions
-            .as_slice()
-            .get(happening.transaction?)
+/// An event of a story, by its place in the script.
+#[derive(Clone, Copy)]
+pub struct Moment<'a> {
+    pub story: Story<'a>,
+    pub event: usize,
+    pub happening: &'a Happening,
+}
+
+impl<'a> Moment<'a> {
+    /// The event at a place.
+    pub fn of(story: Story<'a>, event: usize) -> Option<Moment<'a>> {
+        let happening = story.history.events.as_slice().get(event)?;
+        Some(Moment {
+            story,
+            event,
+            happening,
+        })
+    }
+
+    /// The transaction in which it stands.
+    pub fn transaction(self) -> Option<&'a Transaction> {
+        let transactions = self.story.history.transactions.as_slice();
+        transactions.get(self.happening.transaction?)
     }
 }
 

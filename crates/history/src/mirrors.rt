@@ -1,7 +1,7 @@
 //! The transactions of the engine's sessions, run once more beside it.
 
 use crate::checks::push_checks;
-use crate::histories::{End, Happening, Read, Reader, Transaction};
+use crate::histories::{End, Happening, History, Read, Reader, Transaction};
 use crate::tries::try_statement;
 use alone::{Answer, Modes, ResolvedStatement};
 use commit::{Core, Seat};
@@ -21,30 +21,30 @@ pub struct Mirror {
     pub transaction: usize,
 }
 
-/// Follows an event, with what it was answered, in the session's own transaction. That memory is wanting is an error
-/// also where it is the answer.
+/// Follows the newest event of a history, with what it was answered, in its session's own transaction. That memory is
+/// wanting is an error also where it is the answer.
 pub fn follow(
     alloc: Global,
     core: &Core,
     mirror: &mut Mirror,
-    event: usize,
     line: &ScriptLine,
-    happening: &mut Happening,
-    transactions: &mut Vec<Transaction>,
+    history: &mut History,
 ) -> Result<(), AllocError> {
+    let Some(happening) = history.events.last() else {
+        return Ok(());
+    };
     match &happening.answer {
         Answer::Refused(Refusal::NoMemory) => Err(AllocError),
         Answer::Begun(snapshot) => {
-            let snapshot = *snapshot;
             let access = access_of(&line.event);
-            match Txn::begin(alloc, 0, snapshot, access, core.newest()) {
-                Ok(txn) => follow_begin(alloc, txn, mirror, event, happening, transactions),
+            match Txn::begin(alloc, 0, *snapshot, access, core.newest()) {
+                Ok(txn) => follow_begin(alloc, txn, mirror, history),
                 Err(error) => Err(error),
             }
         }
         _ => {
             let commits = core.records().len() as u64;
-            follow_inside(alloc, commits, mirror, event, line, happening, transactions)
+            follow_inside(alloc, commits, mirror, line, history)
         }
     }
 }
@@ -62,30 +62,27 @@ fn follow_inside(
     alloc: Global,
     commits: u64,
     mirror: &mut Mirror,
-    event: usize,
     line: &ScriptLine,
-    happening: &mut Happening,
-    transactions: &mut Vec<Transaction>,
+    history: &mut History,
 ) -> Result<(), AllocError> {
     if mirror.seat.txn.is_none() {
         return Ok(());
     }
-    let Some(transaction) = transactions.get_mut(mirror.transaction) else {
+    let event = history.events.len().saturating_sub(1);
+    let Some(happening) = history.events.last_mut() else {
+        return Ok(());
+    };
+    let Some(transaction) = history.transactions.get_mut(mirror.transaction) else {
         return Ok(());
     };
     happening.transaction = Some(mirror.transaction);
     transaction.ended = event;
     match &line.event {
         Event::Begin | Event::BeginReadOnly => Ok(()),
-        Event::Run(statement) => follow_statement(
-            alloc,
-            mirror,
-            event,
-            statement,
-            happening,
-            transaction,
-        ),
-        Event::Commit => follow_commit(alloc, commits, mirror, event, happening, transaction),
+        Event::Run(statement) => {
+            follow_statement(alloc, mirror, statement, happening, transaction)
+        }
+        Event::Commit => follow_commit(alloc, commits, mirror, happening, transaction),
         Event::Rollback => {
             transaction.end = End::RolledBack;
             set_txn(&mut mirror.seat, None);
@@ -99,17 +96,19 @@ fn follow_begin(
     alloc: Global,
     txn: Txn,
     mirror: &mut Mirror,
-    event: usize,
-    happening: &mut Happening,
-    transactions: &mut Vec<Transaction>,
+    history: &mut History,
 ) -> Result<(), AllocError> {
     let (read_only, snapshot) = (txn.is_read_only(), txn.snapshot());
     let modes = Modes::initial(alloc, txn.own().assertions());
     set_txn(&mut mirror.seat, Some(txn));
     mirror.modes = modes?;
-    mirror.transaction = transactions.len();
+    mirror.transaction = history.transactions.len();
+    let event = history.events.len().saturating_sub(1);
+    let Some(happening) = history.events.last_mut() else {
+        return Ok(());
+    };
     happening.transaction = Some(mirror.transaction);
-    transactions.push(Transaction {
+    history.transactions.push(Transaction {
         session: happening.session,
         begun: event,
         ended: event,
@@ -127,7 +126,6 @@ fn follow_begin(
 fn follow_statement(
     alloc: Global,
     mirror: &mut Mirror,
-    event: usize,
     statement: &Statement,
     happening: &mut Happening,
     transaction: &mut Transaction,
@@ -140,11 +138,11 @@ fn follow_statement(
     if !has_view {
         happening.view = Some(txn.own().copy()?);
     }
-    execute(txn, event, statement, transaction)?;
+    execute(txn, statement, transaction)?;
     if has_view {
-        push_tried(alloc, &mirror.modes, event, happening, transaction)?;
+        push_tried(alloc, &mirror.modes, happening, transaction)?;
     } else {
-        follow_modes(alloc, mirror, event, happening, transaction)?;
+        follow_modes(alloc, mirror, happening, transaction)?;
     }
     if !happening.is_refused() {
         happening.view = None;
@@ -156,27 +154,24 @@ fn follow_statement(
 fn push_tried(
     alloc: Global,
     modes: &Modes,
-    event: usize,
     happening: &Happening,
     transaction: &mut Transaction,
 ) -> Result<(), AllocError> {
-    let Some(view) = &happening.view else {
-        return Ok(());
-    };
-    push_checks(
-        alloc,
-        &mut transaction.reads,
-        view,
-        modes,
-        happening.changes.as_slice(),
-        event,
-    )
+    match &happening.view {
+        Some(view) => push_checks(
+            alloc,
+            transaction,
+            view,
+            modes,
+            happening.changes.as_slice(),
+        ),
+        None => Ok(()),
+    }
 }
 
 /// Runs the statement, and notes what it read itself.
 fn execute(
     txn: &mut Txn,
-    event: usize,
     statement: &Statement,
     transaction: &mut Transaction,
 ) -> Result<(), AllocError> {
@@ -192,29 +187,35 @@ fn execute(
     for key in txn.reads().iter().skip(before).take(most) {
         transaction.reads.push(Read {
             key: key.copy()?,
-            event,
+            event: transaction.ended,
             reader: Reader::Statement,
         })?;
     }
     Ok(())
 }
 
+/// Takes the transaction of a seat to COMMIT, if one is open there.
+fn close(seat: &mut Seat) -> Result<Option<ClosedTransaction>, AllocError> {
+    let Some(txn) = seat.txn.take() else {
+        return Ok(None);
+    };
+    match txn.close_check() {
+        Ok(closed) => Ok(Some(closed)),
+        Err(unclosed) => Err(give_up(unclosed)),
+    }
+}
+
 /// The modes after SET CONSTRAINTS, and what its checks read.
 fn follow_modes(
     alloc: Global,
     mirror: &mut Mirror,
-    event: usize,
     happening: &Happening,
     transaction: &mut Transaction,
 ) -> Result<(), AllocError> {
-    let Some(txn) = mirror.seat.txn.take() else {
+    let Some(closed) = close(&mut mirror.seat)? else {
         return Ok(());
     };
-    let closed = match txn.close_check() {
-        Ok(closed) => closed,
-        Err(unclosed) => return Err(give_up(unclosed)),
-    };
-    let followed = follow_modes_in(alloc, &closed, mirror, event, happening, transaction);
+    let followed = follow_modes_in(alloc, &closed, mirror, happening, transaction);
     set_txn(&mut mirror.seat, Some(closed.reopen()));
     followed
 }
@@ -223,7 +224,6 @@ fn follow_modes_in(
     alloc: Global,
     closed: &ClosedTransaction,
     mirror: &mut Mirror,
-    event: usize,
     happening: &Happening,
     transaction: &mut Transaction,
 ) -> Result<(), AllocError> {
@@ -234,8 +234,7 @@ fn follow_modes_in(
     let assertions = own.assertions();
     if *mode == Mode::Immediate {
         let meant = Modes::named_immediate(alloc, assertions, names.as_slice())?;
-        let changes = closed.changes();
-        push_checks(alloc, &mut transaction.reads, own, &meant, changes, event)?;
+        push_checks(alloc, transaction, own, &meant, closed.changes())?;
     }
     if !happening.is_refused() && mirror.modes.len() == assertions.len() {
         mirror.modes = mirror
@@ -251,16 +250,11 @@ fn follow_commit(
     alloc: Global,
     commits: u64,
     mirror: &mut Mirror,
-    event: usize,
     happening: &mut Happening,
     transaction: &mut Transaction,
 ) -> Result<(), AllocError> {
-    let Some(txn) = mirror.seat.txn.take() else {
+    let Some(closed) = close(&mut mirror.seat)? else {
         return Ok(());
-    };
-    let closed = match txn.close_check() {
-        Ok(closed) => closed,
-        Err(unclosed) => return Err(give_up(unclosed)),
     };
     match &happening.answer {
         Answer::Committed(number) => {
@@ -272,30 +266,23 @@ fn follow_commit(
             transaction.number = commits.saturating_add(1);
         }
     }
-    let noted = note_closed(alloc, &closed, &mirror.modes, event, happening, transaction);
+    let noted = note_closed(alloc, &closed, &mirror.modes, happening, transaction);
     drop(closed.into_parts());
     noted
 }
 
+/// Notes what the check of a COMMIT read in these modes, and what the transaction changed.
 fn note_closed(
     alloc: Global,
     closed: &ClosedTransaction,
     modes: &Modes,
-    event: usize,
     happening: &mut Happening,
     transaction: &mut Transaction,
 ) -> Result<(), AllocError> {
     let own = closed.txn().own();
     let deferred = modes.opposite(alloc)?;
     let changes = closed.changes();
-    push_checks(
-        alloc,
-        &mut transaction.reads,
-        own,
-        &deferred,
-        changes,
-        event,
-    )?;
+    push_checks(alloc, transaction, own, &deferred, changes)?;
     transaction.changes = copy_changes(alloc, changes)?;
     if happening.is_refused() {
         happening.view = Some(own.copy()?);

@@ -49,8 +49,8 @@ fn record(
     push_mirrors(alloc, engine.seats(), mirrors)?;
     push_names(engine.seats(), &mut history.sessions)?;
     history.loaded = Some(engine.core().loaded().copy()?);
-    for (event, line) in lines.iter().enumerate() {
-        record_line(alloc, engine, mirrors, event, line, history)?;
+    for line in lines {
+        record_line(alloc, engine, mirrors, line, history)?;
     }
     history
         .order
@@ -90,7 +90,6 @@ fn record_line(
     alloc: Global,
     engine: &mut Engine,
     mirrors: &mut Vec<Mirror>,
-    event: usize,
     line: &ScriptLine,
     history: &mut History,
 ) -> Result<(), AllocError> {
@@ -110,16 +109,5 @@ fn record_line(
         changes: Vec::new(alloc),
         view: None,
     })?;
-    let Some(happening) = history.events.last_mut() else {
-        return Ok(());
-    };
-    follow(
-        alloc,
-        engine.core(),
-        mirror,
-        event,
-        line,
-        happening,
-        &mut history.transactions,
-    )
+    follow(alloc, engine.core(), mirror, line, history)
 }

@@ -7,36 +7,38 @@ use token::{Kind, Token, read_tokens};
 
 /// A text of pieces that end with a semicolon, as definitions and scripts are, by its tokens.
 #[derive(Drop)]
-pub struct Source {
+pub struct Source<'a> {
+    text: &'a [u8],
     tokens: Vec<Token>,
     /// For each piece its first token, and the semicolon that ends it.
     pieces: Vec<(usize, usize)>,
 }
 
-impl Source {
-    /// Of no text yet: there is no piece.
-    pub fn new(alloc: Global) -> Source {
+impl<'a> Source<'a> {
+    /// A text that was not read yet: no piece of it is known.
+    pub fn new(alloc: Global, text: &'a [u8]) -> Source<'a> {
         Source {
+            text,
             tokens: Vec::new(alloc),
             pieces: Vec::new(alloc),
         }
     }
 
-    /// Finds the pieces of a text, and forgets those of another.
+    /// Finds the pieces.
     ///
     /// # Errors
     ///
     /// Where there is no memory for them. Which pieces were found is then unknown.
-    pub fn read(&mut self, alloc: Global, text: &[u8]) -> Result<(), AllocError> {
+    pub fn read(&mut self, alloc: Global) -> Result<(), AllocError> {
         self.pieces.clear();
-        self.tokens = read_tokens(alloc, text)?;
+        self.tokens = read_tokens(alloc, self.text)?;
         push_pieces(self.tokens.as_slice(), &mut self.pieces)
     }
 
     /// The line on which a piece begins, from 1 upwards.
-    pub fn line(&self, text: &[u8], piece: usize) -> usize {
+    pub fn line(&self, piece: usize) -> usize {
         match self.tokens_of(piece).first() {
-            Some(token) => line_at(text, token.start),
+            Some(token) => line_at(self.text, token.start),
             None => 0,
         }
     }
@@ -56,14 +58,14 @@ impl Source {
     }
 
     /// Adds a piece without its semicolon, with one space where blanks and comments are.
-    pub fn add_piece(&self, text: &[u8], piece: usize, out: &mut Printout) {
-        add_tokens(self.tokens_of(piece), text, out);
+    pub fn add_piece(&self, piece: usize, out: &mut Printout) {
+        add_tokens(self.tokens_of(piece), self.text, out);
     }
 
     /// Adds an event of a script in the same way, without its session.
-    pub fn add_event(&self, text: &[u8], piece: usize, out: &mut Printout) {
+    pub fn add_event(&self, piece: usize, out: &mut Printout) {
         match self.tokens_of(piece) {
-            [_session, _colon, event @ ..] => add_tokens(event, text, out),
+            [_session, _colon, event @ ..] => add_tokens(event, self.text, out),
             _ => {}
         }
     }

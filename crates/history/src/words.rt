@@ -77,12 +77,7 @@ fn add_column(view: &View, table: usize, column: usize, value: &Value, out: &mut
 
 /// Adds the values of a row in parentheses.
 pub fn add_row(row: &Row, out: &mut Printout) {
-    let mut front = "(";
-    for value in row.values() {
-        out.add(front);
-        out.show(value);
-        front = ", ";
-    }
+    out.show_list("(", row.values(), ", ");
     out.add(")");
 }
 

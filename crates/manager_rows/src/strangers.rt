@@ -88,10 +88,13 @@ pub fn is_stranger<N: Named>(begun: Result<Txn<N>, Refusal>) -> bool {
 /// The transaction that a COMMIT gave back as a stranger's, with no receipt.
 pub fn refused<N: Named>(outcome: Result<Receipt<N>, CommitFault<N>>) -> Result<Txn<N>, Fail> {
     let fault = outcome.err();
-    given_back(fault.ok_or("a stranger's transaction was committed")?)
+    let fault = fault.ok_or("a stranger's transaction was committed")?;
+    let (refusal, txn) = given_back(fault)?;
+    stranger_back(txn, refusal)
 }
 
-fn given_back<N: Named>(fault: CommitFault<N>) -> Result<Txn<N>, Fail> {
+/// Why a COMMIT gave a transaction back, with no receipt, and the transaction.
+pub fn given_back<N: Named>(fault: CommitFault<N>) -> Result<(Refusal, Txn<N>), Fail> {
     let CommitFault {
         refusal,
         txn,
@@ -99,8 +102,12 @@ fn given_back<N: Named>(fault: CommitFault<N>) -> Result<Txn<N>, Fail> {
     } = fault;
     let shows = shown.iter().any(|shown| shown.is_some());
     match txn {
-        Some(txn) => back(txn, refusal, shows),
-        None => Err(Fail::from("a stranger's transaction was ended")),
+        Some(txn) if !shows => Ok((refusal, txn)),
+        Some(txn) => {
+            drop(txn.abandon());
+            Err(Fail::from("a receipt was shown"))
+        }
+        None => Err(Fail::from("a transaction was ended that should have been given back")),
     }
 }
 
@@ -108,8 +115,27 @@ fn given_back<N: Named>(fault: CommitFault<N>) -> Result<Txn<N>, Fail> {
 pub fn unrolled<N: Named>(outcome: Result<(), (Refusal, Txn<N>)>) -> Result<Txn<N>, Fail> {
     match outcome {
         Ok(()) => Err(Fail::from("a stranger's transaction was rolled back")),
-        Err((refusal, txn)) => back(txn, refusal, false),
+        Err((refusal, txn)) => stranger_back(txn, refusal),
     }
+}
+
+/// The transaction that a call gave back as a stranger's.
+fn stranger_back<N: Named>(txn: Txn<N>, refusal: Refusal) -> Result<Txn<N>, Fail> {
+    let is_wanted = matches!(refusal, Refusal::Stranger);
+    wanted_back(txn, refusal, is_wanted)
+}
+
+/// The transaction that a call gave back, if its refusal is the one that was wanted.
+pub fn wanted_back<N: Named>(
+    txn: Txn<N>,
+    refusal: Refusal,
+    is_wanted: bool,
+) -> Result<Txn<N>, Fail> {
+    if is_wanted {
+        return Ok(txn);
+    }
+    drop(txn.abandon());
+    Err(Fail::from(refusal))
 }
 
 pub fn is_ended<N: Named>(outcome: Result<(), (Refusal, Txn<N>)>) -> bool {
@@ -120,15 +146,6 @@ pub fn is_ended<N: Named>(outcome: Result<(), (Refusal, Txn<N>)>) -> bool {
             false
         }
     }
-}
-
-/// The transaction that a call gave back as a stranger's, with no receipt.
-fn back<N: Named>(txn: Txn<N>, refusal: Refusal, shows: bool) -> Result<Txn<N>, Fail> {
-    if matches!(refusal, Refusal::Stranger) && !shows {
-        return Ok(txn);
-    }
-    drop(txn.abandon());
-    Err(Fail::from(refusal))
 }
 
 fn serve_shifts<N: Named, R: Wait + Abort>(

@@ -97,9 +97,7 @@ fn add_line(scene: Scene<'_>, it: &Transaction, event: usize, ink: &str, canvas:
     if event == it.ended && it.end != End::Open {
         add_last_event(scene.history, it, &mut canvas.text);
     } else {
-        scene
-            .events
-            .add_event(scene.script, event, &mut canvas.text);
+        scene.events.add_event(event, &mut canvas.text);
     }
     canvas.add_text(
         point_in(scene, it, event),

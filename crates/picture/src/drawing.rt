@@ -62,15 +62,14 @@ fn draw(
     script: &[u8],
     picture: &mut Printout,
 ) -> Result<(), AllocError> {
-    let mut events = Source::new(alloc);
+    let mut events = Source::new(alloc, script);
     let mut layout = Layout::new(alloc);
     let mut canvas = Canvas::new(alloc);
-    events.read(alloc, script)?;
-    layout.take_in(history, &events, script, &mut canvas.text)?;
+    events.read(alloc)?;
+    layout.take_in(history, &events, &mut canvas.text)?;
     let scene = Scene {
         history,
         events: &events,
-        script,
         layout: &layout,
     };
     let height = add_body(alloc, scene, &mut canvas)?;

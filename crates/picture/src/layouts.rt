@@ -63,8 +63,7 @@ impl Layout {
     pub fn take_in(
         &mut self,
         history: &History,
-        events: &Source,
-        script: &[u8],
+        events: &Source<'_>,
         text: &mut Printout,
     ) -> Result<(), AllocError> {
         push_lanes(history, &mut self.lanes)?;
@@ -73,7 +72,7 @@ impl Layout {
         self.is_written = self.lanes.len() <= MOST_WRITTEN_LANES
             && self.rows.len() <= MOST_WRITTEN_ROWS;
         if self.is_written {
-            let longest = longest_text(events, script, self.rows.as_slice(), text)?;
+            let longest = longest_text(events, self.rows.as_slice(), text)?;
             self.lane_width = written_width(longest, self.lanes.len());
             return Ok(());
         }
@@ -146,14 +145,13 @@ fn written_width(longest: usize, lanes: usize) -> u32 {
 
 /// How many columns the longest text of these events takes.
 fn longest_text(
-    events: &Source,
-    script: &[u8],
+    events: &Source<'_>,
     rows: &[usize],
     text: &mut Printout,
 ) -> Result<usize, AllocError> {
     let mut longest = 0usize;
     for event in rows {
-        events.add_event(script, *event, text);
+        events.add_event(*event, text);
         longest = longest.max(text.text()?.width());
         text.clear();
     }

@@ -7,8 +7,7 @@ use history::{History, Source, Transaction};
 #[derive(Clone, Copy)]
 pub struct Scene<'a> {
     pub history: &'a History,
-    pub events: &'a Source,
-    pub script: &'a [u8],
+    pub events: &'a Source<'a>,
     pub layout: &'a Layout,
 }
 

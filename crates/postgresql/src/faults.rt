@@ -1,8 +1,9 @@
 //! Why the SQL was not printed.
 
-ghost use Rattle.std.specs.Prelude.{◌≡◌};
+ghost use Rattle.std.specs.Prelude.{◌≡◌, false};
 ghost use Rattle.postgresql.specs.declared.faults.PrintFault.TheVariants.{NoMemory};
 
+use printout::Unwritten;
 use std::alloc::AllocError;
 use thiserror::Error;
 use value::Text;
@@ -26,5 +27,18 @@ impl From<AllocError> for PrintFault {
 
     fn from(_error: AllocError) -> PrintFault {
         PrintFault::NoMemory
+    }
+}
+
+impl From<Unwritten> for PrintFault {
+    ghost use Rattle.postgresql.specs.Faults.{is_before_writing};
+
+    ghost from_gives = { λ _ fault. is_before_writing fault ≡ false };
+
+    fn from(unwritten: Unwritten) -> PrintFault {
+        match unwritten {
+            Unwritten::NoMemory => PrintFault::NoMemory,
+            Unwritten::Output => PrintFault::Output,
+        }
     }
 }

@@ -5,7 +5,7 @@
 
 use crate::conditions::{ColumnSlots, NoSlots, Scope, Slots, add_condition};
 use crate::totals;
-use crate::words::{add_column_name, add_name, add_set_function};
+use crate::words::{add_column_name, add_set_function};
 use assertion::{Form, Link, Query, Whole};
 use delta::View;
 use printout::Printout;
@@ -68,7 +68,7 @@ pub fn add_key_of(sql: &mut Printout, view: &View, table: usize) {
 /// Adds the name of a table.
 pub fn add_table_name(sql: &mut Printout, view: &View, table: usize) {
     if let Some(name) = view.catalog().name(table) {
-        add_name(sql, name);
+        sql.add_name(name);
     }
 }
 

@@ -9,14 +9,16 @@
 //! (tools/against_postgresql.py).
 //!
 //! From the bottom up: `words` (names, constants and set functions), `conditions` (conditions and expressions), `forms`
-//! (the bad roots of an assertion, and the test of one), `totals` (of single conditions), `candidates`, `tables`,
-//! `rules` (what stands for an assertion), `triggers` (what stands for a table) and `fixed` (what is the same for all).
+//! (the bad roots of an assertion, and the test of one), `changed` (the rows that a statement has changed), `totals`
+//! (of single conditions), `candidates`, `tables`, `rules` (what stands for an assertion), `triggers` (what stands for
+//! a table) and `fixed` (what is the same for all).
 #![tactic(auto)]
 
 ghost use Rattle.std.specs.Prelude.{◌≡◌, true, false, IfErr};
 ghost use Rattle.postgresql.specs.Faults.{is_before_writing};
 
 mod candidates;
+mod changed;
 mod conditions;
 mod faults;
 mod fixed;
@@ -31,6 +33,7 @@ use assertion::Assertion;
 use delta::View;
 pub use faults::PrintFault;
 use printout::Printout;
+use rules::Rule;
 use std::alloc::Global;
 use std::io::Write;
 use table::Row;
@@ -60,8 +63,8 @@ fn print_all<W: Write>(alloc: Global, view: &View, out: &mut W) -> Result<(), Pr
         print_table(&mut sql, view, table, out)?;
     }
     add_rules(&mut sql, view);
-    write_out(&mut sql, out)?;
-    flush(out)
+    sql.finish_into(out)?;
+    Ok(())
 }
 
 /// Writes a table and its rows.
@@ -80,7 +83,8 @@ fn print_table<W: Write>(
         }
     }
     tables::add_indexes(sql, view, table);
-    write_out(sql, out)
+    sql.write_into(out)?;
+    Ok(())
 }
 
 fn print_row<W: Write>(
@@ -93,7 +97,8 @@ fn print_row<W: Write>(
     ensures late { IfErr result (λ fault. is_before_writing fault ≡ false) }
 {
     tables::add_row(sql, view, table, row);
-    write_out(sql, out)
+    sql.write_into(out)?;
+    Ok(())
 }
 
 /// Adds all that keeps the rules.
@@ -103,7 +108,7 @@ fn add_rules(sql: &mut Printout, view: &View) {
         sql.add(fixed::CALLS);
     }
     for (place, assertion) in view.assertions().iter().enumerate() {
-        rules::add_rule(sql, view, place.saturating_add(1), assertion);
+        rules::add_rule(sql, view, Rule::at(place, assertion));
     }
     for table in 0..view.catalog().len() {
         triggers::add_triggers(sql, view, table);
@@ -117,25 +122,4 @@ fn can_defer(assertions: &[Assertion]) -> bool {
     assertions
         .iter()
         .any(|assertion| assertion.attributes.deferrable)
-}
-
-/// Writes what was put together, and empties it.
-fn write_out<W: Write>(sql: &mut Printout, out: &mut W) -> Result<(), PrintFault>
-    ensures late { IfErr result (λ fault. is_before_writing fault ≡ false) }
-{
-    let text = sql.text()?;
-    if out.write_all(text.as_bytes()).is_err() {
-        return Err(PrintFault::Output);
-    }
-    sql.clear();
-    Ok(())
-}
-
-fn flush<W: Write>(out: &mut W) -> Result<(), PrintFault>
-    ensures late { IfErr result (λ fault. is_before_writing fault ≡ false) }
-{
-    match out.flush() {
-        Ok(()) => Ok(()),
-        Err(_) => Err(PrintFault::Output),
-    }
 }

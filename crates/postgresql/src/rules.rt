@@ -2,43 +2,60 @@
 
 use crate::forms::{GroupRule, RootKind, RowRule, RuleSql, SingleRule, root_kind};
 use crate::totals;
-use crate::words::add_name;
 use assertion::{Assertion, Form};
 use delta::View;
 use printout::Printout;
 use value::Text;
 
-/// Adds what an assertion has for itself. Rules are counted from 1, in the order of their creation.
-pub fn add_rule(sql: &mut Printout, view: &View, rule: usize, assertion: &Assertion) {
+/// An assertion with its number: rules are counted from 1, in the order of their creation.
+#[derive(Clone, Copy)]
+pub struct Rule<'a> {
+    pub number: usize,
+    pub assertion: &'a Assertion,
+}
+
+impl<'a> Rule<'a> {
+    /// The assertion at a place in the order of creation.
+    pub fn at(place: usize, assertion: &'a Assertion) -> Rule<'a> {
+        Rule {
+            number: place.saturating_add(1),
+            assertion,
+        }
+    }
+}
+
+/// Adds what an assertion has for itself.
+pub fn add_rule(sql: &mut Printout, view: &View, rule: Rule<'_>) {
     sql.add("\n-- Rule ");
-    sql.show(rule);
+    sql.show(rule.number);
     sql.add(", ");
-    sql.show(&assertion.name);
+    sql.show(&rule.assertion.name);
     sql.add(": ");
-    add_choice(sql, view, rule, &assertion.form);
-    add_form(sql, view, rule, &assertion.form);
-    if assertion.attributes.deferrable {
-        add_call(sql, rule, root_kind(view, &assertion.form), assertion);
+    add_choice(sql, view, rule);
+    add_form(sql, view, rule);
+    if rule.assertion.attributes.deferrable {
+        add_call(sql, rule, root_kind(view, &rule.assertion.form));
     }
 }
 
 /// Adds how the rule is checked and why, and the totals of a single condition.
-fn add_choice(sql: &mut Printout, view: &View, rule: usize, form: &Form) {
-    match form {
+fn add_choice(sql: &mut Printout, view: &View, rule: Rule<'_>) {
+    match &rule.assertion.form {
         Form::ByRow { .. } => sql.add(
             "by rows, checked at the keys that changed rows have or are linked to.\n",
         ),
         Form::ByGroup { .. } => sql.add("by groups, checked at the groups of changed rows.\n"),
         Form::Single { queries, .. } if totals::are_kept(queries.as_slice()) => {
             sql.add(totals::WHY_KEPT);
-            totals::add_table(sql, view, rule, queries.as_slice());
+            totals::add_table(sql, view, rule.number, queries.as_slice());
         }
         Form::Single { .. } => sql.add(totals::WHY_NOT_KEPT),
     }
 }
 
 /// Adds what evaluates a form.
-fn add_form(sql: &mut Printout, view: &View, rule: usize, form: &Form) {
+fn add_form(sql: &mut Printout, view: &View, rule: Rule<'_>) {
+    let form = &rule.assertion.form;
     let type_name = root_kind(view, form).type_name();
     match form {
         Form::ByRow {
@@ -52,7 +69,7 @@ fn add_form(sql: &mut Printout, view: &View, rule: usize, form: &Form) {
                 condition,
                 queries: queries.as_slice(),
             };
-            add_tests(sql, rule, type_name, &by_row);
+            add_tests(sql, rule.number, type_name, &by_row);
         }
         Form::ByGroup {
             table,
@@ -69,16 +86,16 @@ fn add_form(sql: &mut Printout, view: &View, rule: usize, form: &Form) {
                 having,
                 aggregates: aggregates.as_slice(),
             };
-            add_tests(sql, rule, type_name, &by_group);
+            add_tests(sql, rule.number, type_name, &by_group);
         }
         Form::Single { condition, queries } => {
             let single = SingleRule {
                 view,
-                rule,
+                rule: rule.number,
                 condition,
                 queries: queries.as_slice(),
             };
-            add_tests(sql, rule, type_name, &single);
+            add_tests(sql, rule.number, type_name, &single);
         }
     }
 }
@@ -122,9 +139,9 @@ pub fn add_refusal(sql: &mut Printout, kind: RootKind, name: &Text) {
 }
 
 /// Adds the constraint trigger of a deferrable rule, which PostgreSQL calls at once or later, as the rule's mode is.
-fn add_call(sql: &mut Printout, rule: usize, kind: RootKind, assertion: &Assertion) {
+fn add_call(sql: &mut Printout, rule: Rule<'_>, kind: RootKind) {
     sql.add("CREATE FUNCTION skewguard_check_");
-    sql.show(rule);
+    sql.show(rule.number);
     sql.add(
         "() RETURNS trigger
 LANGUAGE plpgsql SECURITY DEFINER SET search_path FROM CURRENT AS $skewguard$
@@ -137,12 +154,12 @@ BEGIN
     END IF;
 ",
     );
-    add_noted_check(sql, rule, kind);
-    add_refusal(sql, kind, &assertion.name);
+    add_noted_check(sql, rule.number, kind);
+    add_refusal(sql, kind, &rule.assertion.name);
     sql.add("    DELETE FROM pg_temp.skewguard_notes AS n WHERE n.rules = TG_RELID AND n.rule = ");
-    sql.show(rule);
+    sql.show(rule.number);
     sql.add(";\n    RETURN NULL;\nEND\n$skewguard$;\n");
-    add_constraint(sql, rule, assertion);
+    add_constraint(sql, rule);
 }
 
 /// Adds the look for the least bad root among those that are noted of a rule.
@@ -157,19 +174,19 @@ fn add_noted_check(sql: &mut Printout, rule: usize, kind: RootKind) {
     sql.add(" NULLS FIRST LIMIT 1;\n");
 }
 
-fn add_constraint(sql: &mut Printout, rule: usize, assertion: &Assertion) {
-    let mode = if assertion.attributes.initially_deferred {
+fn add_constraint(sql: &mut Printout, rule: Rule<'_>) {
+    let mode = if rule.assertion.attributes.initially_deferred {
         "DEFERRED"
     } else {
         "IMMEDIATE"
     };
     sql.add("CREATE CONSTRAINT TRIGGER ");
-    add_name(sql, &assertion.name);
+    sql.add_name(&rule.assertion.name);
     sql.add(" AFTER INSERT ON skewguard_due\n    DEFERRABLE INITIALLY ");
     sql.add_all(&[mode, " FOR EACH ROW WHEN (NEW.rule = "]);
-    sql.show(rule);
+    sql.show(rule.number);
     sql.add(")\n    EXECUTE FUNCTION skewguard_check_");
-    sql.show(rule);
+    sql.show(rule.number);
     sql.add("();\n");
 }
 
@@ -181,37 +198,37 @@ CREATE VIEW skewguard_verdicts (place, rule, verdict, root) AS
     SELECT NULL::integer, NULL::text, NULL::boolean, NULL::text WHERE false",
     );
     for (place, assertion) in view.assertions().iter().enumerate() {
-        add_verdict(sql, view, place.saturating_add(1), assertion);
+        add_verdict(sql, view, Rule::at(place, assertion));
     }
     sql.add(";\n");
 }
 
-fn add_verdict(sql: &mut Printout, view: &View, rule: usize, assertion: &Assertion) {
+fn add_verdict(sql: &mut Printout, view: &View, rule: Rule<'_>) {
     sql.add("\n    UNION ALL SELECT ");
-    sql.show(rule);
+    sql.show(rule.number);
     sql.add(", '");
-    sql.show(&assertion.name);
+    sql.show(&rule.assertion.name);
     sql.add("', ");
-    add_truth(sql, view, rule, &assertion.form);
+    add_truth(sql, view, rule);
     sql.add(",\n        (SELECT ");
-    add_written(sql, root_kind(view, &assertion.form), "b.root");
+    add_written(sql, root_kind(view, &rule.assertion.form), "b.root");
     sql.add(" FROM skewguard_bad_roots_");
-    sql.show(rule);
+    sql.show(rule.number);
     sql.add(" AS b ORDER BY b.root NULLS FIRST LIMIT 1)");
 }
 
 /// Adds the truth of a rule, evaluated from scratch.
-fn add_truth(sql: &mut Printout, view: &View, rule: usize, form: &Form) {
-    match form {
+fn add_truth(sql: &mut Printout, view: &View, rule: Rule<'_>) {
+    match &rule.assertion.form {
         Form::ByRow { .. } | Form::ByGroup { .. } => {
             sql.add("NOT EXISTS (SELECT FROM skewguard_bad_roots_");
-            sql.show(rule);
+            sql.show(rule.number);
             sql.add(")");
         }
         Form::Single { condition, queries } => {
             let single = SingleRule {
                 view,
-                rule,
+                rule: rule.number,
                 condition,
                 queries: queries.as_slice(),
             };

@@ -2,7 +2,7 @@
 
 use crate::faults::PrintFault;
 use crate::forms::{add_table_name, columns_of};
-use crate::words::{add_constant, add_name};
+use crate::words::add_constant;
 use assertion::{Assertion, Form};
 use delta::View;
 use printout::Printout;
@@ -30,7 +30,7 @@ fn add_column(sql: &mut Printout, column: &Column, is_key: bool) {
         (false, true) => "",
         (false, false) => " NOT NULL",
     };
-    add_name(sql, &column.name);
+    sql.add_name(&column.name);
     match column.kind {
         ColType::Integer => add_number_kind(sql, column, rest),
         ColType::Varchar(most) => add_text_kind(sql, column, rest, most),
@@ -39,7 +39,7 @@ fn add_column(sql: &mut Printout, column: &Column, is_key: bool) {
 
 fn add_number_kind(sql: &mut Printout, column: &Column, rest: &str) {
     sql.add_all(&[" bigint", rest, " CHECK ("]);
-    add_name(sql, &column.name);
+    sql.add_name(&column.name);
     sql.add(" BETWEEN -");
     sql.show(LARGEST);
     sql.add(" AND ");
@@ -49,11 +49,11 @@ fn add_number_kind(sql: &mut Printout, column: &Column, rest: &str) {
 
 fn add_text_kind(sql: &mut Printout, column: &Column, rest: &str, most: u8) {
     sql.add_all(&[" text COLLATE \"C\"", rest, " CHECK (char_length("]);
-    add_name(sql, &column.name);
+    sql.add_name(&column.name);
     sql.add(") <= ");
     sql.show(most);
     sql.add(" AND ");
-    add_name(sql, &column.name);
+    sql.add_name(&column.name);
     sql.add(" !~ E'[\\\\x01-\\\\x1f\\\\x7f]')");
 }
 
@@ -78,7 +78,7 @@ pub fn add_indexes(sql: &mut Printout, view: &View, table: usize) {
             sql.add("CREATE INDEX ON ");
             add_table_name(sql, view, table);
             sql.add(" (");
-            add_name(sql, &column.name);
+            sql.add_name(&column.name);
             sql.add(");\n");
         }
     }

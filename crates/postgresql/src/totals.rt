@@ -7,6 +7,7 @@
 //! value once, are of what is left after a DELETE known from no total, so a condition over one of them is checked by
 //! its aggregates.
 
+use crate::changed::ChangedRows;
 use crate::conditions::Slots;
 use crate::forms::{add_column_of, add_filter, add_source};
 use assertion::{Query, Whole};
@@ -155,20 +156,18 @@ fn add_amount(sql: &mut Printout, view: &View, query: &Query<Whole>, row: &str) 
 /// them does not touch their row.
 pub fn add_change(
     sql: &mut Printout,
-    view: &View,
+    changed: ChangedRows<'_>,
     rule: usize,
-    table: usize,
     queries: &[Query<Whole>],
-    changed: &str,
 ) {
     sql.add("    UPDATE skewguard_totals_");
     sql.show(rule);
     sql.add(" AS t SET\n");
-    add_new_totals(sql, table, queries);
+    add_new_totals(sql, changed.table, queries);
     sql.add("\n    FROM (SELECT\n");
-    add_differences(sql, view, table, queries);
-    sql.add_all(&["\n        FROM ", changed, " AS c) AS d\n"]);
-    add_touched(sql, table, queries);
+    add_differences(sql, changed.view, changed.table, queries);
+    sql.add_all(&["\n        FROM ", changed.signed, " AS c) AS d\n"]);
+    add_touched(sql, changed.table, queries);
 }
 
 /// Adds, for each set function over a table, its totals with what is added to them.

@@ -6,31 +6,13 @@
 //! PostgreSQL's own modes say when (`fixed::CALLS`).
 
 use crate::candidates::{add_candidates, is_over};
+use crate::changed::ChangedRows;
 use crate::forms::{add_key_of, add_table_name, root_kind};
-use crate::rules::add_refusal;
+use crate::rules::{Rule, add_refusal};
 use crate::totals;
 use assertion::{Assertion, Form};
 use delta::View;
 use printout::Printout;
-
-/// The changed rows of a statement: all of them, and each beside what it adds to a count, as `sign`.
-#[derive(Clone, Copy)]
-struct ChangedRows {
-    rows: &'static str,
-    signed: &'static str,
-}
-
-/// What an INSERT puts in, or a DELETE takes out.
-const ONCE: ChangedRows = ChangedRows {
-    rows: "skewguard_changed",
-    signed: "(SELECT CASE TG_OP WHEN 'DELETE' THEN -1 ELSE 1 END AS sign, t.* FROM skewguard_changed AS t)",
-};
-
-/// What an UPDATE changes, as it was and as it is.
-const TWICE: ChangedRows = ChangedRows {
-    rows: "(TABLE skewguard_old UNION ALL TABLE skewguard_new)",
-    signed: "(SELECT -1 AS sign, t.* FROM skewguard_old AS t UNION ALL SELECT 1, t.* FROM skewguard_new AS t)",
-};
 
 /// The trigger of a kind of statement: its name, the statement, what of the rows it hands on, and the function that it
 /// calls.
@@ -70,8 +52,8 @@ pub fn add_triggers(sql: &mut Printout, view: &View, table: usize) {
         sql.add("-- After each statement on ");
         add_table_name(sql, view, table);
         sql.add(".\n");
-        add_function(sql, view, table, "changed", &ONCE);
-        add_function(sql, view, table, "updated", &TWICE);
+        add_function(sql, "changed", ChangedRows::once(view, table));
+        add_function(sql, "updated", ChangedRows::twice(view, table));
         add_trigger(sql, view, table, &INSERTED);
         add_trigger(sql, view, table, &DELETED);
         add_trigger(sql, view, table, &UPDATED);
@@ -117,9 +99,9 @@ fn add_trigger(sql: &mut Printout, view: &View, table: usize, trigger: &Trigger)
 }
 
 /// Adds a function of a table's triggers, for rows that are changed in one way.
-fn add_function(sql: &mut Printout, view: &View, table: usize, name: &str, changed: &ChangedRows) {
+fn add_function(sql: &mut Printout, name: &str, changed: ChangedRows<'_>) {
     sql.add_all(&["CREATE FUNCTION skewguard_", name, "_"]);
-    sql.show(table.saturating_add(1));
+    sql.show(changed.table.saturating_add(1));
     sql.add(
         "() RETURNS trigger
 LANGUAGE plpgsql SECURITY DEFINER SET search_path FROM CURRENT AS $skewguard$
@@ -131,9 +113,9 @@ BEGIN
     PERFORM skewguard_require_serializable();
 ",
     );
-    add_total_changes(sql, view, table, changed);
-    add_checks(sql, view, table, changed);
-    if defers(view.assertions(), table) {
+    add_total_changes(sql, changed);
+    add_checks(sql, changed);
+    if defers(changed.view.assertions(), changed.table) {
         sql.add("    IF is_new THEN\n        PERFORM skewguard_call_noted();\n    END IF;\n");
     }
     sql.add("    RETURN NULL;\nEND\n$skewguard$;\n");
@@ -146,72 +128,52 @@ fn defers(assertions: &[Assertion], table: usize) -> bool {
 }
 
 /// Adds what the changed rows add to totals.
-fn add_total_changes(sql: &mut Printout, view: &View, table: usize, changed: &ChangedRows) {
-    for (place, assertion) in view.assertions().iter().enumerate() {
+fn add_total_changes(sql: &mut Printout, changed: ChangedRows<'_>) {
+    for (place, assertion) in changed.view.assertions().iter().enumerate() {
         if let Form::Single { queries, .. } = &assertion.form {
-            if is_over(&assertion.form, table) && totals::are_kept(queries.as_slice()) {
-                let rule = place.saturating_add(1);
-                totals::add_change(sql, view, rule, table, queries.as_slice(), changed.signed);
+            if is_over(&assertion.form, changed.table) && totals::are_kept(queries.as_slice()) {
+                let rule = Rule::at(place, assertion);
+                totals::add_change(sql, changed, rule.number, queries.as_slice());
             }
         }
     }
 }
 
 /// Adds the checks and the notes of the rules over a table, in the order of their creation.
-fn add_checks(sql: &mut Printout, view: &View, table: usize, changed: &ChangedRows) {
-    for (place, assertion) in view.assertions().iter().enumerate() {
-        if is_over(&assertion.form, table) {
-            add_check(
-                sql,
-                view,
-                table,
-                place.saturating_add(1),
-                assertion,
-                changed.rows,
-            );
+fn add_checks(sql: &mut Printout, changed: ChangedRows<'_>) {
+    for (place, assertion) in changed.view.assertions().iter().enumerate() {
+        if is_over(&assertion.form, changed.table) {
+            add_check(sql, changed, Rule::at(place, assertion));
         }
     }
 }
 
 /// Adds the part of a rule: its check, and of a deferrable rule the notes in place of it.
-fn add_check(
-    sql: &mut Printout,
-    view: &View,
-    table: usize,
-    rule: usize,
-    assertion: &Assertion,
-    changed: &str,
-) {
-    if assertion.attributes.deferrable {
-        add_note(sql, view, table, rule, &assertion.form, changed);
+fn add_check(sql: &mut Printout, changed: ChangedRows<'_>, rule: Rule<'_>) {
+    if rule.assertion.attributes.deferrable {
+        add_note(sql, changed, rule);
         sql.add("    ELSE\n");
-        add_immediate_check(sql, view, table, rule, assertion, changed);
+        add_immediate_check(sql, changed, rule);
         sql.add("    END IF;\n");
     } else {
-        add_immediate_check(sql, view, table, rule, assertion, changed);
+        add_immediate_check(sql, changed, rule);
     }
 }
 
 /// Adds the head of a deferrable rule's part: where it is deferred its candidates are noted.
-fn add_note(
-    sql: &mut Printout,
-    view: &View,
-    table: usize,
-    rule: usize,
-    form: &Form,
-    changed: &str,
-) {
+fn add_note(sql: &mut Printout, changed: ChangedRows<'_>, rule: Rule<'_>) {
+    let form = &rule.assertion.form;
     sql.add("    IF NOT EXISTS (\n        ");
-    add_candidates(sql, view, form, table, changed);
+    add_candidates(sql, changed, form);
     sql.add(") THEN\n        NULL;\n    ELSIF skewguard_is_noted(");
-    sql.show(rule);
+    sql.show(rule.number);
     sql.add(") OR NOT skewguard_is_immediate(");
-    sql.show(rule);
+    sql.show(rule.number);
     sql.add(") THEN\n        is_new := is_new OR NOT skewguard_is_noted(");
-    sql.show(rule);
+    sql.show(rule.number);
     sql.add(");\n        PERFORM skewguard_open_notes();\n");
-    add_insertion(sql, rule, root_kind(view, form).column());
-    add_candidates(sql, view, form, table, changed);
+    add_insertion(sql, rule.number, root_kind(changed.view, form).column());
+    add_candidates(sql, changed, form);
     sql.add(") AS u\n        ON CONFLICT DO NOTHING;\n");
 }
 
@@ -228,21 +190,14 @@ fn add_insertion(sql: &mut Printout, rule: usize, column: &str) {
 }
 
 /// Adds the check of a rule at each of its candidates once.
-fn add_immediate_check(
-    sql: &mut Printout,
-    view: &View,
-    table: usize,
-    rule: usize,
-    assertion: &Assertion,
-    changed: &str,
-) {
-    let kind = root_kind(view, &assertion.form);
+fn add_immediate_check(sql: &mut Printout, changed: ChangedRows<'_>, rule: Rule<'_>) {
+    let kind = root_kind(changed.view, &rule.assertion.form);
     sql.add("    WITH roots AS MATERIALIZED (SELECT DISTINCT u.root FROM (\n        ");
-    add_candidates(sql, view, &assertion.form, table, changed);
+    add_candidates(sql, changed, &rule.assertion.form);
     sql.add(") AS u)\n");
     sql.add_all(&["    SELECT roots.root INTO ", kind.variable()]);
     sql.add(" FROM roots WHERE skewguard_is_bad_");
-    sql.show(rule);
+    sql.show(rule.number);
     sql.add("(roots.root)\n        ORDER BY roots.root NULLS FIRST LIMIT 1;\n");
-    add_refusal(sql, kind, &assertion.name);
+    add_refusal(sql, kind, &rule.assertion.name);
 }

@@ -4,18 +4,10 @@ use printout::Printout;
 use table::{Aggregate, Column};
 use value::{Text, Value};
 
-/// Adds a name in double quotes, in which it is taken byte by byte and is never a reserved word. It holds no quote
-/// itself: the names of the language are letters, digits and `_`.
-pub fn add_name(sql: &mut Printout, name: &Text) {
-    sql.add("\"");
-    sql.show(name);
-    sql.add("\"");
-}
-
 /// Adds the name of a column of these, by its place; the word NULL where there is none.
 pub fn add_column_name(sql: &mut Printout, columns: &[Column], place: usize) {
     match columns.get(place) {
-        Some(column) => add_name(sql, &column.name),
+        Some(column) => sql.add_name(&column.name),
         None => sql.add("NULL"),
     }
 }
