@@ -44,10 +44,61 @@ TEXTS = {
     "varchar-300": "CREATE TABLE T (ID INTEGER PRIMARY KEY, A VARCHAR(300));\n",
     "number-too-great": "CREATE TABLE T (ID INTEGER PRIMARY KEY);\nINSERT INTO T VALUES (10000000000000000);\n",
     "reserved-name": "CREATE TABLE T (ID INTEGER PRIMARY KEY, KEY INTEGER);\n",
-    "key-on-a-line": "CREATE TABLE T (ID INTEGER, PRIMARY KEY (ID));\n",
+    "key-of-two-columns": "CREATE TABLE T (ID INTEGER, A INTEGER, PRIMARY KEY (ID, A));\n",
+    "reserved-table": "CREATE TABLE FOREIGN (ID INTEGER PRIMARY KEY);\n",
+    "no-type": "CREATE TABLE T (A INTEGER CONSTRAINT X UNIQUE, B PRIMARY KEY);\n",
+    "key-of-no-column": "CREATE TABLE T (ID INTEGER, PRIMARY KEY (NO));\n",
+    "key-of-a-misspelt-column": "CREATE TABLE T (NUMBER INTEGER, PRIMARY KEY (NUMBR));\n",
+    "key-with-a-name": "CREATE TABLE T (ID INTEGER, CONSTRAINT MAIN PRIMARY KEY (ID));\n",
+    "key-with-a-name-behind-a-column": "CREATE TABLE T (ID INTEGER CONSTRAINT MAIN PRIMARY KEY);\n",
+    "key-behind-a-column": "CREATE TABLE T (ID INTEGER PRIMARY KEY (ID));\n",
+    "not-null-with-a-name": "CREATE TABLE T (ID INTEGER PRIMARY KEY, A INTEGER CONSTRAINT THERE NOT NULL);\n",
     "default": "CREATE TABLE T (ID INTEGER PRIMARY KEY, A INTEGER DEFAULT 0);\n",
     "foreign-key": "CREATE TABLE T (ID INTEGER PRIMARY KEY, U INTEGER REFERENCES U (ID));\n",
-    "check-in-table": "CREATE TABLE T (ID INTEGER PRIMARY KEY, A INTEGER CHECK (A > 0));\n",
+    "foreign-key-behind-a-column": "CREATE TABLE T (ID INTEGER PRIMARY KEY, U INTEGER FOREIGN KEY REFERENCES T);\n",
+    "foreign-key-without-its-words": "CREATE TABLE T (ID INTEGER PRIMARY KEY, U INTEGER,\n"
+        "    CONSTRAINT LINK REFERENCES T);\n",
+    "foreign-key-to-a-reserved-word": "CREATE TABLE T (ID INTEGER PRIMARY KEY, U INTEGER REFERENCES ON (A));\n",
+    "foreign-key-cascades": "CREATE TABLE T (ID INTEGER PRIMARY KEY, U INTEGER REFERENCES T ON DELETE CASCADE);\n",
+    "foreign-key-of-no-column": TABLES
+        + "CREATE TABLE T (ID INTEGER PRIMARY KEY, U INTEGER,\n    FOREIGN KEY (V) REFERENCES DUTY (ID));\n",
+    "foreign-key-to-no-column": TABLES
+        + "CREATE TABLE T (ID INTEGER PRIMARY KEY, U INTEGER,\n    FOREIGN KEY (U) REFERENCES DUTY (IDS));\n",
+    "foreign-key-to-no-key": TABLES + "CREATE TABLE T (ID INTEGER PRIMARY KEY, U INTEGER REFERENCES DUTY (SHIFT));\n",
+    "foreign-key-of-a-text": TABLES + "CREATE TABLE T (ID INTEGER PRIMARY KEY, U VARCHAR(9) REFERENCES DUTY);\n",
+    "foreign-key-of-a-number": TABLES + "CREATE TABLE T (ID INTEGER PRIMARY KEY, A VARCHAR(9) UNIQUE, U INTEGER,\n"
+        "    FOREIGN KEY (U) REFERENCES T (A));\n",
+    "foreign-key-of-two-columns": TABLES
+        + "CREATE TABLE T (ID INTEGER PRIMARY KEY, U INTEGER, V INTEGER, FOREIGN KEY (U, V) REFERENCES DUTY);\n",
+    "foreign-key-to-two-columns": TABLES
+        + "CREATE TABLE T (ID INTEGER PRIMARY KEY, U INTEGER,\n    FOREIGN KEY (U) REFERENCES DUTY (ID, SHIFT));\n",
+    "references-to-two-columns": TABLES
+        + "CREATE TABLE T (ID INTEGER PRIMARY KEY, U INTEGER REFERENCES DUTY (ID, SHIFT));\n",
+    "foreign-key-from-two-to-two": TABLES + "CREATE TABLE T (ID INTEGER PRIMARY KEY, U INTEGER, V INTEGER,\n"
+        "    FOREIGN KEY (U, V) REFERENCES DUTY (ID, SHIFT));\n",
+    "unique-behind-a-column": "CREATE TABLE T (ID INTEGER PRIMARY KEY, A INTEGER UNIQUE (A));\n",
+    "unique-of-two-columns": "CREATE TABLE T (ID INTEGER PRIMARY KEY, A INTEGER, B INTEGER,\n    UNIQUE (A, B));\n",
+    "unique-of-a-column-twice": "CREATE TABLE T (ID INTEGER PRIMARY KEY, A INTEGER, UNIQUE (A, A));\n",
+    "unique-of-no-column": "CREATE TABLE T (ID INTEGER PRIMARY KEY, A INTEGER UNIQUE, UNIQUE (B));\n",
+    "unique-not-deferrable": "CREATE TABLE T (ID INTEGER PRIMARY KEY, A INTEGER UNIQUE NOT DEFERRABLE);\n",
+    "constraint-twice": "CREATE TABLE T (ID INTEGER PRIMARY KEY,\n    A INTEGER CONSTRAINT SAME UNIQUE, B INTEGER"
+        " CONSTRAINT SAME CHECK (B > 0));\n",
+    "constraint-without-a-name-twice": "CREATE TABLE T (ID INTEGER PRIMARY KEY,\n    A INTEGER UNIQUE, UNIQUE (A));\n",
+    "check-without-a-name-twice": "CREATE TABLE T (ID INTEGER PRIMARY KEY, A INTEGER, CHECK (A > 0), CHECK (A < 9));\n",
+    "constraint-attributes": "CREATE TABLE T (ID INTEGER PRIMARY KEY, A INTEGER,\n"
+        "    CHECK (A > 0) INITIALLY IMMEDIATE, UNIQUE (A) NOT DEFERRABLE INITIALLY DEFERRED);\n",
+    "check-of-no-column": "CREATE TABLE T (ID INTEGER PRIMARY KEY, A INTEGER CHECK (B > 0));\n",
+    "check-of-a-text": "CREATE TABLE T (ID INTEGER PRIMARY KEY, A VARCHAR(9),\n    CHECK (ID > 0 AND A > 0));\n",
+    "check-too-wide": "CREATE TABLE T (ID INTEGER PRIMARY KEY, A INTEGER, CHECK (A * A * A > 0));\n",
+    "check-by-a-function": "CREATE TABLE T (ID INTEGER PRIMARY KEY, A INTEGER CHECK (SUM(A) > 0));\n",
+    "check-by-a-query-in-a-query": TABLES + "CREATE TABLE T (ID INTEGER PRIMARY KEY, CHECK (EXISTS (\n"
+        "    SELECT * FROM DUTY D WHERE D.SHIFT = T.ID AND EXISTS (SELECT * FROM ACCT A WHERE A.ID = D.ID))));\n",
+    "check-by-a-function-in-a-query": TABLES + "CREATE TABLE T (ID INTEGER PRIMARY KEY, CHECK (EXISTS (\n"
+        "    SELECT * FROM DUTY D WHERE D.SHIFT = T.ID AND SUM(D.ONCALL) > 1)));\n",
+    "check-before-its-columns": "CREATE TABLE T (CHECK (C > 0), ID INTEGER PRIMARY KEY, C VARCHAR(9));\n",
+    "check-of-no-near-column": "CREATE TABLE T (CHECK (C > 0), ID INTEGER PRIMARY KEY);\n",
+    "false-constraint": "CREATE TABLE T (ID INTEGER PRIMARY KEY, A INTEGER CHECK (A > 0), B INTEGER UNIQUE);\n"
+        "INSERT INTO T VALUES (1, 1, 7);\nINSERT INTO T VALUES (2, 1, 7);\n",
     "two-rows": "CREATE TABLE T (ID INTEGER PRIMARY KEY);\nINSERT INTO T VALUES (1), (2);\n",
     "not-equal": rule("NOT EXISTS (SELECT * FROM DUTY WHERE ONCALL != 1)"),
     "equals-null": rule("NOT EXISTS (SELECT * FROM DUTY WHERE DOCTOR = NULL)"),

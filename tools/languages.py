@@ -44,6 +44,8 @@ EXAMPLES = {
     "booking": "4 guests have a room\nslots: 1209 1210 1211 1212 1213\n",
 }
 
+# The name of a rule: of an assertion, of a constraint, or of one without CONSTRAINT in a comment behind it.
+RULE = re.compile(r"^CREATE ASSERTION (\w+) |\bCONSTRAINT (\w+) |-- (\w+)$", re.MULTILINE)
 REPLAY = "skewguard", "replay", "defs.sql", "script.sql"
 # The rows that are there for events of docs/LANGUAGE.md over a table T.
 ROWS_OF_T = """CREATE TABLE T (ID INTEGER PRIMARY KEY, N INTEGER);
@@ -274,13 +276,15 @@ def run_way(name: str, way: Way, place: pathlib.Path, known: Known) -> None:
 def rules(known: Known, folder: pathlib.Path) -> None:
     """The program takes each block of rules of docs/LANGUAGE.md.
 
-    What tables a block does not make are those of the page's first block.
+    What tables a block does not make are those of the page's first block. A constraint without CONSTRAINT has its name
+    in a comment behind it.
     """
     language = page("docs/LANGUAGE.md")
     texts = code(language, "sql")
     tables = re.findall(r"^(CREATE TABLE (\w+) .*\n)", texts[0], re.MULTILINE)
-    named = [(text, re.findall(r"^CREATE ASSERTION (\w+) ", text, re.MULTILINE)) for text in texts]
-    if sum(len(names) for _, names in named) != language.count("\nCREATE ASSERTION "):
+    named = [(text, [found[found.lastindex or 0] for found in RULE.finditer(text)]) for text in texts]
+    written = sum(len(re.findall("^CREATE ASSERTION ", text, re.MULTILINE)) for text in texts)
+    if written != language.count("\nCREATE ASSERTION "):
         sys.exit("docs/LANGUAGE.md has a rule outside of its blocks of SQL")
     place = folder / "rules"
     place.mkdir()

@@ -26,19 +26,25 @@ Token = tuple[int, set[str]]  # the place of a token, and what it can stand for
 Item = tuple[str, Way, int, int]  # a rule's head, a way, how far it has come, and where it began
 Chart = list[set[Item]]
 
-RESERVED = set("""ALL AND AS ASSERTION BEGIN BETWEEN BY CHECK COMMIT CONSTRAINTS COUNT CREATE DEFERRABLE DEFERRED
-DELETE DISTINCT EXISTS FALSE FROM GROUP HAVING IMMEDIATE IN INITIALLY INSERT INT INTEGER INTO IS KEY MAX MIN NOT NULL
-ONLY OR PRIMARY READ ROLLBACK SELECT SET SUM TABLE TRUE UNKNOWN UPDATE VALUES VARCHAR VERDICT WHERE WORK""".split())
+RESERVED = set("""ALL AND AS ASSERTION BEGIN BETWEEN BY CHECK COMMIT CONSTRAINT CONSTRAINTS COUNT CREATE
+DEFERRABLE DEFERRED DELETE DISTINCT EXISTS FALSE FOREIGN FROM GROUP HAVING IMMEDIATE IN INITIALLY INSERT INT
+INTEGER INTO IS KEY MAX MIN NOT NULL ONLY OR PRIMARY READ REFERENCES ROLLBACK SELECT SET SUM TABLE TRUE UNIQUE
+UNKNOWN UPDATE VALUES VARCHAR VERDICT WHERE WORK""".split())
 
 # Quoted: a token; `name`, `number`, `width` (a number from 1 to 255), `text`: a kind of token; else a rule. `|` parts
 # the ways.
 RULES = """
 defs = | def ';' defs
 script = | name ':' event ';' script
-def = 'CREATE' 'TABLE' name '(' col cols ')' | 'CREATE' 'ASSERTION' name 'CHECK' '(' cond ')' attrs | insert
-cols = | ',' col cols
-col = name type marks
-marks = | 'NOT' 'NULL' | 'NOT' 'NULL' 'PRIMARY' 'KEY' | 'PRIMARY' 'KEY' | 'PRIMARY' 'KEY' 'NOT' 'NULL'
+def = 'CREATE' 'TABLE' name '(' elements ')' | 'CREATE' 'ASSERTION' name 'CHECK' '(' cond ')' attrs | insert
+elements = element | element ',' elements
+element = name type colcons | 'PRIMARY' 'KEY' '(' names ')' | named tabcon attrs
+colcons = | colcon colcons
+colcon = 'NOT' 'NULL' | 'PRIMARY' 'KEY' | named colrule colattrs
+colrule = 'UNIQUE' | 'CHECK' '(' cond ')' | 'REFERENCES' name | 'REFERENCES' name '(' name ')'
+colattrs = | when | when 'DEFERRABLE' | 'DEFERRABLE' | 'DEFERRABLE' when
+named = | 'CONSTRAINT' name
+tabcon = 'UNIQUE' '(' names ')' | 'CHECK' '(' cond ')' | 'FOREIGN' 'KEY' '(' names ')' 'REFERENCES' name columns
 type = 'INTEGER' | 'INT' | 'VARCHAR' '(' width ')'
 attrs = | when | when defer | defer | defer when
 when = 'INITIALLY' mode

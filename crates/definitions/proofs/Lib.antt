@@ -1,5 +1,8 @@
 pub mod GoodTables
+pub mod Kept
 pub mod OneMore
 pub mod Redeclaring
+pub mod Says
+pub mod Unknown
 pub mod WithoutIndexes
 pub mod WrittenAssertions

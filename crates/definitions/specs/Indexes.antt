@@ -7,7 +7,7 @@ use Rattle.definitions.specs.Taken.{view_of_definitions}
 
 -- whether it is a CREATE INDEX
 abbrev pub is_index : Definition → Bool
-is_index (definition.Table name columns) = false
+is_index (definition.Table t) = false
 is_index (definition.Assertion name condition attributes) = false
 is_index (definition.Insert insert) = false
 is_index (definition.Index name table column) = true

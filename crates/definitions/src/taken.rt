@@ -2,7 +2,7 @@
 
 ghost use Rattle.std.specs.Prelude.{◌≡◌, ◌≢◌, ◌<◌, [], ◌∷◌, IfOk, IfErr, OnOk, Ok, Err, length};
 ghost use Rattle.value.specs.declared.refusals.Refusal.TheVariants.{NoMemory};
-ghost use Rattle.definitions.specs.Taken.{is_asserted, empty_database, view_of_definitions, with_assertion, with_definition, with_index, with_table};
+ghost use Rattle.definitions.specs.Taken.{is_asserted, empty_database, view_of_definitions, with_assertion, with_constrained_table, with_constraint, with_constraints, with_definition, with_index, with_table};
 ghost use Rattle.definitions.specs.Written.{AreWritten};
 ghost use Rattle.assertion.specs.Declarations.{layouts_in};
 ghost use Rattle.assertion.specs.Changes.{IsChangeOf, state_after};
@@ -11,6 +11,7 @@ ghost use Rattle.alone.specs.Statements.{insert_effect};
 ghost use Rattle.changes.specs.Insertions.{tables_after_insert};
 ghost use Rattle.delta.specs.Views.{IsFitting};
 
+use crate::constraints::{UniqueColumns, constraint_name, foreign_key_condition, unique_condition};
 use crate::tables::schema_of;
 use crate::takings::Taking;
 use assertcheck::{NewRow, check, check_insert};
@@ -21,7 +22,9 @@ use form_check::Source;
 use mvrows::Rows;
 use std::alloc::{AllocError, Global};
 use std::marker::Model;
-use syntax::{Attributes, ColumnDefinition, Condition, Definition, Insert};
+use syntax::{
+    Attributes, Condition, Constraint, Definition, Insert, TableConstraint, TableDefinition,
+};
 use table::{Catalog, Change, Row, name_at, schema_at};
 use value::{Refusal, Text};
 
@@ -71,18 +74,25 @@ impl Definitions {
     /// # Errors
     ///
     /// The fault of the definition, which is the first of several. CREATE TABLE: [`Refusal::NameTaken`] of the table,
-    /// then of a column that stands twice, then [`Refusal::OutsideClass`] unless exactly one column is the key. CREATE
+    /// then of a column that stands twice, then [`Refusal::UnknownName`] of a column of a PRIMARY KEY, then
+    /// [`Refusal::OutsideClass`] unless one column is the key; then of each constraint what [`unique_condition`] and
+    /// [`foreign_key_condition`] answer, and what CREATE ASSERTION does. CREATE
     /// ASSERTION: [`Refusal::NameTaken`], and then what `assertcheck::check` answers. INSERT: what
     /// `assertcheck::check_insert` answers, then by columns [`Refusal::NullNotAllowed`] and [`Refusal::OutOfRange`],
     /// and last [`Refusal::DuplicateKey`]. CREATE INDEX: [`Refusal::UnknownName`] of the table, then of the column. Or
     /// [`Refusal::NoMemory`].
-    pub(crate) fn with(self, alloc: Global, definition: &Definition) -> Result<Definitions, Refusal>
-        ensures taken { IfOk result (λ made. with_definition definition.now self ≡ Ok made) }
+    pub(crate) fn with(
+        self,
+        alloc: Global,
+        definition: &Definition,
+        unique: &[UniqueColumns],
+    ) -> Result<Definitions, Refusal>
+        ensures taken { IfOk result (λ made. with_definition unique.now definition.now self ≡ Ok made) }
         ensures refused { IfErr result (λ refusal. refusal ≢ NoMemory
-            → with_definition definition.now self ≡ Err refusal) }
+            → with_definition unique.now definition.now self ≡ Err refusal) }
     {
         match definition {
-            Definition::Table { name, columns } => self.with_table(alloc, name, columns.as_slice()),
+            Definition::Table(table) => self.with_constrained_table(alloc, table, unique),
             Definition::Assertion {
                 name,
                 condition,
@@ -144,21 +154,102 @@ impl Definitions {
         View::load(alloc, catalog, assertions, rows.as_slice())
     }
 
-    /// CREATE TABLE: its name is free among the tables.
-    fn with_table(
+    /// CREATE TABLE: the table, and then the assertion of each of its constraints.
+    fn with_constrained_table(
+        self,
+        alloc: Global,
+        table: &TableDefinition,
+        unique: &[UniqueColumns],
+    ) -> Result<Definitions, Refusal>
+        ensures taken { IfOk result (λ made. with_constrained_table unique.now table.now self ≡ Ok made) }
+        ensures refused { IfErr result (λ refusal. refusal ≢ NoMemory
+            → with_constrained_table unique.now table.now self ≡ Err refusal) }
+    {
+        let made = self.with_table(alloc, table)?;
+        made.with_constraints(alloc, &table.name, table.constraints.as_slice(), unique)
+    }
+
+    /// The assertions of the constraints of a table, in their order.
+    fn with_constraints(
+        self,
+        alloc: Global,
+        table: &Text,
+        constraints: &[TableConstraint],
+        unique: &[UniqueColumns],
+    ) -> Result<Definitions, Refusal>
+        ensures taken { IfOk result (λ made. with_constraints unique.now table.now constraints.now self ≡ Ok made) }
+        ensures refused { IfErr result (λ refusal. refusal ≢ NoMemory
+            → with_constraints unique.now table.now constraints.now self ≡ Err refusal) }
+    {
+        let mut made = self;
+        for constraint in constraints {
+            made = made.with_constraint(alloc, table, constraint, unique)?;
+        }
+        Ok(made)
+    }
+
+    /// The assertion of a constraint of a table.
+    fn with_constraint(
+        self,
+        alloc: Global,
+        table: &Text,
+        constraint: &TableConstraint,
+        unique: &[UniqueColumns],
+    ) -> Result<Definitions, Refusal>
+        ensures taken { IfOk result (λ made. with_constraint unique.now table.now constraint.now self ≡ Ok made) }
+        ensures refused { IfErr result (λ refusal. refusal ≢ NoMemory
+            → with_constraint unique.now table.now constraint.now self ≡ Err refusal) }
+    {
+        let name = constraint_name(alloc, table, constraint)?;
+        let attributes = constraint.attributes;
+        match &constraint.constraint {
+            Constraint::Unique(columns) => {
+                match unique_condition(alloc, &self.catalog, table, columns.as_slice()) {
+                    Ok(condition) => self.with_rule(alloc, &name, condition, attributes),
+                    Err(refusal) => Err(refusal),
+                }
+            }
+            Constraint::Check { condition, .. } => self.with_assertion(
+                alloc, &name, condition, attributes,
+            ),
+            Constraint::ForeignKey(key) => {
+                match foreign_key_condition(alloc, &self.catalog, unique, table, key) {
+                    Ok(condition) => self.with_rule(alloc, &name, condition, attributes),
+                    Err(refusal) => Err(refusal),
+                }
+            }
+        }
+    }
+
+    /// The assertion of a condition that is made of a constraint, and let go here.
+    fn with_rule(
         self,
         alloc: Global,
         name: &Text,
-        columns: &[ColumnDefinition],
+        condition: Condition,
+        attributes: Attributes,
     ) -> Result<Definitions, Refusal>
-        ensures taken { IfOk result (λ made. with_table name.now columns.now self ≡ Ok made) }
+        ensures taken { IfOk result (λ made. with_assertion name.now condition attributes self ≡ Ok made) }
         ensures refused { IfErr result (λ refusal. refusal ≢ NoMemory
-            → with_table name.now columns.now self ≡ Err refusal) }
+            → with_assertion name.now condition attributes self ≡ Err refusal) }
     {
+        let made = self.with_assertion(alloc, name, &condition, attributes);
+        drop(condition);
+        made
+    }
+
+    /// A table of which nothing is asked: its name is free among the tables.
+    fn with_table(self, alloc: Global, table: &TableDefinition) -> Result<Definitions, Refusal>
+        ensures taken { IfOk result (λ made.
+            with_table table.now.name table.now.columns table.now.keys self ≡ Ok made) }
+        ensures refused { IfErr result (λ refusal. refusal ≢ NoMemory
+            → with_table table.now.name table.now.columns table.now.keys self ≡ Err refusal) }
+    {
+        let name = &table.name;
         if self.catalog.get(name).is_some() {
             return Err(Refusal::NameTaken { name: name.copy()? });
         }
-        let schema = schema_of(alloc, columns)?;
+        let schema = schema_of(alloc, table.columns.as_slice(), table.keys.as_slice())?;
         let Definitions {
             mut catalog,
             assertions,
@@ -301,7 +392,7 @@ impl Definitions {
 }
 
 /// Whether an assertion has this name.
-pub(crate) fn is_asserted(assertions: &[Assertion], name: &Text) -> bool
+pub fn is_asserted(assertions: &[Assertion], name: &Text) -> bool
     ensures { result ≡ is_asserted name.now assertions.now }
 {
     assertions.iter().any(|assertion| assertion.name == *name)

@@ -6,18 +6,20 @@ ghost use Rattle.std.specs.Str.{bytes_eq};
 ghost use Rattle.value.specs.declared.refusals.Refusal.TheVariants.{NoMemory};
 ghost use Rattle.definitions.specs.Taken.{index_fault, index_in, nothing_taken, taken_with};
 
+use crate::constraints::{UniqueColumns, note_unique};
 use crate::taken::Definitions;
 use std::alloc::{AllocError, Global};
 use std::marker::Model;
 use syntax::Definition;
 use value::{Refusal, Text};
 
-/// What the definitions so far define, and the names of their indexes: so that definitions may be taken in as they are
-/// read, and no list of them is needed.
+/// What the definitions so far define, the names of their indexes, and the columns under UNIQUE, to which a foreign key
+/// may refer: so that definitions may be taken in as they are read, and no list of them is needed.
 #[derive(Drop)]
 pub struct Taking {
     made: Definitions,
     indexes: Vec<Text>,
+    unique: Vec<UniqueColumns>,
 }
 
 impl Model for Taking {
@@ -30,7 +32,7 @@ impl Model for Taking {
 
     ghost coded = { Prim.hlevel (codes, cond_type.the_row.coded, expr_type.the_row.coded) };
 
-    ghost view = { λ t. record { shown = t.made; indexes = t.indexes.items } };
+    ghost view = { λ t. record { shown = t.made; indexes = t.indexes.items; unique = t.unique.items } };
 }
 
 impl Taking {
@@ -41,16 +43,18 @@ impl Taking {
         Taking {
             made: Definitions::new(alloc),
             indexes: Vec::new(alloc),
+            unique: Vec::new(alloc),
         }
     }
 
     /// One definition more. No assertion is evaluated. Of the definition's tree nothing is kept but the name of an
-    /// index.
+    /// index and the names of columns under UNIQUE.
     ///
     /// # Errors
     ///
     /// The fault of the definition, which is the first of several. CREATE TABLE: [`Refusal::NameTaken`] of the table,
-    /// then of a column that stands twice, then [`Refusal::OutsideClass`] unless exactly one column is the key. CREATE
+    /// then of a column that stands twice, then [`Refusal::UnknownName`] of a column of a PRIMARY KEY, then
+    /// [`Refusal::OutsideClass`] unless one column is the key; then the first fault of its constraints. CREATE
     /// ASSERTION: [`Refusal::NameTaken`], and then what `assertcheck::check` answers. INSERT: what
     /// `assertcheck::check_insert` answers, then by columns [`Refusal::NullNotAllowed`] and [`Refusal::OutOfRange`],
     /// and last [`Refusal::DuplicateKey`]. CREATE INDEX: [`Refusal::NameTaken`] where another index has the name, then
@@ -60,11 +64,20 @@ impl Taking {
         ensures refused { IfErr result (λ refusal. refusal ≢ NoMemory
             → taken_with definition.now self ≡ Err refusal) }
     {
-        let Taking { made, mut indexes } = self;
+        let Taking {
+            made,
+            mut indexes,
+            mut unique,
+        } = self;
         require_new_index(&indexes, definition)?;
-        let made = made.with(alloc, definition)?;
+        note_unique(alloc, &mut unique, definition)?;
+        let made = made.with(alloc, definition, &unique)?;
         note_index(&mut indexes, definition)?;
-        Ok(Taking { made, indexes })
+        Ok(Taking {
+            made,
+            indexes,
+            unique,
+        })
     }
 
     /// What they define.

@@ -1,17 +1,20 @@
 //! What is wrong with the first definition that was refused.
 
 use crate::conditions::{Site, diagnose_condition, diagnose_whole};
+use crate::constraints::{WrittenConstraint, constraint_named};
 use crate::contexts::{Context, Viewpoint};
 use crate::inserts::diagnose_insert;
 use crate::names::{diagnose_column_name, diagnose_table_name};
 use crate::refused::first_refused;
 use crate::rules::FORMS;
-use faults::{At, Diagnosis, Piece, place_of};
+use crate::tables::{Earlier, diagnose_table};
+use delta::View;
+use faults::{At, Diagnosis, Piece, Span, place_of};
 use form_check::Scope;
 use std::alloc::{AllocError, Global};
 use std::slice;
-use syntax::{ColumnDefinition, Condition, Definition};
-use table::{Catalog, Row};
+use syntax::{Condition, Definition};
+use table::Row;
 use token::Kind;
 use value::{Refusal, Root, Text};
 
@@ -35,7 +38,7 @@ pub fn diagnose_definitions(
         place,
         refusal,
     };
-    diagnose_refused(alloc, refused, before.catalog(), diagnosis)
+    diagnose_refused(alloc, refused, &before, diagnosis)
 }
 
 /// The definition at a place of a text, and why it was refused.
@@ -46,11 +49,11 @@ struct RefusedDefinition<'a> {
     refusal: &'a Refusal,
 }
 
-/// Says what is wrong with a definition before which there are these tables.
+/// Says what is wrong with a definition before which there are these tables and assertions.
 fn diagnose_refused(
     alloc: Global,
     refused: RefusedDefinition,
-    catalog: &Catalog,
+    before: &View,
     diagnosis: &mut Diagnosis,
 ) -> Result<(), AllocError> {
     let RefusedDefinition {
@@ -61,13 +64,20 @@ fn diagnose_refused(
     let piece = Piece::at(alloc, text.bytes, place)?;
     let context = Context {
         piece: &piece,
-        catalog,
+        catalog: before.catalog(),
         refusal,
     };
-    let Some(definition) = text.definitions.get(place) else {
-        return diagnose_whole(context, diagnosis);
-    };
-    diagnose_definition(alloc, context, definition, diagnosis)?;
+    match text.definitions.get(place) {
+        Some(Definition::Table(table)) => {
+            let earlier = Earlier {
+                definitions: &text.definitions[..place.min(text.definitions.len())],
+                view: before,
+            };
+            diagnose_table(alloc, context, table, earlier, diagnosis)?;
+        }
+        Some(definition) => diagnose_definition(alloc, context, definition, diagnosis)?,
+        None => return diagnose_whole(context, diagnosis),
+    }
     match refusal {
         Refusal::UnknownName { name } => {
             push_created_below(alloc, text, place, name, &mut diagnosis.advice)
@@ -98,8 +108,8 @@ fn push_created_below(
 /// The place of the CREATE TABLE of this name behind another.
 fn created_below(definitions: &[Definition], place: usize, name: &Text) -> Option<usize> {
     for (at, definition) in definitions.iter().enumerate() {
-        if let Definition::Table { name: created, .. } = definition {
-            if at > place && *created == *name {
+        if let Definition::Table(created) = definition {
+            if at > place && created.name == *name {
                 return Some(at);
             }
         }
@@ -107,6 +117,7 @@ fn created_below(definitions: &[Definition], place: usize, name: &Text) -> Optio
     None
 }
 
+/// Says what is wrong with a definition that is no CREATE TABLE.
 fn diagnose_definition(
     alloc: Global,
     context: Context,
@@ -114,9 +125,7 @@ fn diagnose_definition(
     diagnosis: &mut Diagnosis,
 ) -> Result<(), AllocError> {
     match definition {
-        Definition::Table { name, columns } => {
-            diagnose_table(context, name, columns.as_slice(), diagnosis)
-        }
+        Definition::Table(_) => diagnose_whole(context, diagnosis),
         Definition::Assertion {
             name,
             condition,
@@ -192,7 +201,9 @@ fn diagnose_assertion(
 ) -> Result<(), AllocError> {
     match context.refusal {
         Refusal::NameTaken { .. } => name_taken(context, "an assertion", name, 0, diagnosis),
-        Refusal::AttributeClash { .. } => attributes_at_odds(context, diagnosis),
+        Refusal::AttributeClash { .. } => {
+            attributes_at_odds(context, context.piece.token(Kind::Initially, 0), diagnosis)
+        }
         _ => diagnose_rule(alloc, context, condition, diagnosis),
     }
 }
@@ -230,84 +241,29 @@ fn name_taken(
     place: usize,
     diagnosis: &mut Diagnosis,
 ) -> Result<(), AllocError> {
-    diagnosis.place(
-        4,
-        context.name_at(context.piece.token(Kind::Name, place), name),
-    );
+    let at = context.name_at(context.piece.token(Kind::Name, place), name);
+    say_taken(at, whose, name, diagnosis)
+}
+
+/// A name that something has, where it is to be shown.
+pub fn say_taken(
+    at: At,
+    whose: &str,
+    name: &Text,
+    diagnosis: &mut Diagnosis,
+) -> Result<(), AllocError> {
+    diagnosis.place(4, at);
     write!(diagnosis.what, "{whose} has the name {name} already")?;
     diagnosis.advise("Take another name, or leave one of the two definitions out.")
 }
 
-/// Says what is wrong with a CREATE TABLE.
-fn diagnose_table(
+/// INITIALLY DEFERRED and NOT DEFERRABLE, of which the first word stands here.
+pub fn attributes_at_odds(
     context: Context,
-    name: &Text,
-    columns: &[ColumnDefinition],
+    initially: Option<Span>,
     diagnosis: &mut Diagnosis,
 ) -> Result<(), AllocError> {
-    match context.refusal {
-        Refusal::NameTaken { .. } if context.catalog.get(name).is_some() => {
-            name_taken(context, "a table", name, 0, diagnosis)
-        }
-        Refusal::NameTaken { name } => column_twice(context, columns, name, diagnosis),
-        Refusal::OutsideClass => diagnose_key(context, name, columns, diagnosis),
-        _ => diagnose_whole(context, diagnosis),
-    }
-}
-
-/// A column that has the name of one before it.
-fn column_twice(
-    context: Context,
-    columns: &[ColumnDefinition],
-    name: &Text,
-    diagnosis: &mut Diagnosis,
-) -> Result<(), AllocError> {
-    let mut places = columns
-        .iter()
-        .enumerate()
-        .filter(|(_, column)| column.name == *name)
-        .skip(1);
-    let place = places.next().map_or(0, |(place, _)| place);
-    // (the first name is that of the table)
-    let token = context.piece.token(Kind::Name, place.saturating_add(1));
-    diagnosis.place(4, context.name_at(token, name));
-    write!(diagnosis.what, "the table has a column {name} already")?;
-    diagnosis.advise("Take another name for one of the two columns.")
-}
-
-/// No key, or several.
-fn diagnose_key(
-    context: Context,
-    name: &Text,
-    columns: &[ColumnDefinition],
-    diagnosis: &mut Diagnosis,
-) -> Result<(), AllocError> {
-    if columns.iter().any(|column| column.marks.key) {
-        diagnosis.place(20, context.at(context.piece.token(Kind::Primary, 1)));
-        write!(diagnosis.what, "{name} has several keys")?;
-        return diagnosis.advise(ONE_KEY);
-    }
-    diagnosis.place(
-        20,
-        context.name_at(context.piece.token(Kind::Name, 0), name),
-    );
-    write!(diagnosis.what, "{name} has no PRIMARY KEY")?;
-    let first = columns.first().map_or(name, |column| &column.name);
-    writeln!(
-        diagnosis.advice,
-        "One column of each table is its key. Write PRIMARY KEY behind its type, behind that of \
-         {first} for instance."
-    )
-}
-
-/// What is said of a second key.
-const ONE_KEY: &str =
-    "One column is the key. That another is unique too is an assertion: NOT EXISTS \
-     (SELECT C FROM T GROUP BY C HAVING COUNT(*) > 1).";
-
-/// INITIALLY DEFERRED and NOT DEFERRABLE.
-fn attributes_at_odds(context: Context, diagnosis: &mut Diagnosis) -> Result<(), AllocError> {
-    diagnosis.place(22, context.at(context.piece.token(Kind::Initially, 0)));
+    diagnosis.place(22, context.at(initially));
     diagnosis.say("INITIALLY DEFERRED and NOT DEFERRABLE exclude each other")?;
     diagnosis.advise(
         "An assertion that begins deferred is deferrable: leave NOT DEFERRABLE out, or write INITIALLY IMMEDIATE.",
@@ -346,17 +302,32 @@ pub fn diagnose_false(
     )
 }
 
-/// Where the name of an assertion is defined.
+/// Where the name of an assertion is defined; of one that is a constraint of a table, where that begins.
 fn assertion_at(alloc: Global, text: DefinitionsText, name: &Text) -> Result<At, AllocError> {
     for (place, definition) in text.definitions.iter().enumerate() {
-        if let Definition::Assertion { name: other, .. } = definition {
-            if *other == *name {
+        match definition {
+            Definition::Assertion { name: other, .. } if *other == *name => {
                 let piece = Piece::at(alloc, text.bytes, place)?;
                 return Ok(first_name(&piece));
             }
+            Definition::Table(table) => {
+                if let Some(at) = constraint_named(alloc, table, name)? {
+                    let piece = Piece::at(alloc, text.bytes, place)?;
+                    return Ok(constraint_at(&piece, at));
+                }
+            }
+            _ => {}
         }
     }
     Ok(At::Nowhere)
+}
+
+/// Where a constraint of a table begins.
+fn constraint_at(piece: &Piece, place: usize) -> At {
+    match WrittenConstraint::at(piece, place) {
+        Some(written) => At::Bytes(written.named_at(piece)),
+        None => At::Definition(piece.whole()),
+    }
 }
 
 fn first_name(piece: &Piece) -> At {

@@ -17,16 +17,19 @@
 
 mod answers;
 mod conditions;
+mod constraints;
 mod contexts;
 mod definitions_at_fault;
 mod inserts;
 mod leaves;
 mod names;
 mod parts;
+mod references;
 mod refused;
 mod rules;
 mod shapes;
 mod statements;
+mod tables;
 mod types;
 mod widths;
 

@@ -15,8 +15,12 @@ pub enum Rule {
     Listed,
     /// A set function stands in a WHERE.
     FunctionInWhere,
+    /// A set function stands in the CHECK of a table, outside a query.
+    FunctionInCheck,
     /// A query stands where none may: in a WHERE that is not that of the outer query of a rule by rows.
     QueryInWhere,
+    /// A query stands in a query of the CHECK of a table.
+    QueryInQuery,
     /// A query stands in a HAVING.
     QueryInHaving,
     /// A column in a HAVING is not the grouping column.
@@ -42,7 +46,9 @@ pub fn wrong(rule: Rule) -> &'static str {
         Rule::HavingWithoutGroup => "HAVING without GROUP BY is no rule",
         Rule::Listed => "this may not be listed under EXISTS",
         Rule::FunctionInWhere => "a set function may not stand in a WHERE",
+        Rule::FunctionInCheck => "a set function may not stand in a CHECK outside a query",
         Rule::QueryInWhere => "no query may stand in this WHERE",
+        Rule::QueryInQuery => "no query may stand in a query of a CHECK",
         Rule::QueryInHaving => "no query may stand in a HAVING",
         Rule::ColumnInHaving => "this column is not the one of GROUP BY",
         Rule::NoLink => "this query is not linked to the row around it",
@@ -69,7 +75,9 @@ fn form_of(rule: Rule) -> &'static str {
         Rule::HavingWithoutGroup => HAVING_WITHOUT_GROUP,
         Rule::Listed => LISTED,
         Rule::FunctionInWhere => FUNCTION_IN_WHERE,
+        Rule::FunctionInCheck => FUNCTION_IN_CHECK,
         Rule::QueryInWhere => QUERY_IN_WHERE,
+        Rule::QueryInQuery => QUERY_IN_QUERY,
         Rule::QueryInHaving => QUERY_IN_HAVING,
         Rule::ColumnInHaving => COLUMN_IN_HAVING,
         Rule::NoLink => LINK,
@@ -94,10 +102,18 @@ const FUNCTION_IN_WHERE: &str = "A WHERE looks at one row. Of groups of rows wri
      HAVING COUNT(*) > 2; of the rows that are linked to a row, (SELECT COUNT(*) FROM D WHERE \
      D.COLUMN = R.KEY) > 2.";
 
+const FUNCTION_IN_CHECK: &str =
+    "The CHECK of a table looks at one row. Of the rows that are linked \
+     to a row of T write (SELECT COUNT(*) FROM D WHERE D.COLUMN = T.KEY) > 2; of groups of rows, or of the \
+     whole table, write a CREATE ASSERTION.";
+
 const QUERY_IN_WHERE: &str =
     "Queries stand in the outermost WHERE of NOT EXISTS (SELECT * FROM T R \
      WHERE ..) alone, each linked to R. Keep what the inner query asks for in a column, or write \
      an assertion of its own.";
+
+const QUERY_IN_QUERY: &str = "Each query of a CHECK is linked to the row that is looked at. Keep \
+     what the inner query asks for in a column, or write a CREATE ASSERTION.";
 
 const QUERY_IN_HAVING: &str =
     "HAVING compares set functions of the group, its grouping column and constants.";

@@ -184,10 +184,44 @@ fn by_row<'a>(
     let Some(keeps) = &known.query.keeps else {
         return Ok(None);
     };
-    let parts = parts_of_condition(alloc, keeps, known.clauses().keeps)?;
+    in_rows(alloc, catalog, known.scope, keeps, known.clauses().keeps)
+}
+
+/// The part of the condition of a CHECK over the rows of a table that is outside the class, if its leaves begin here.
+pub fn in_check<'a>(
+    alloc: Global,
+    catalog: &'a Catalog,
+    scope: Scope<'a>,
+    condition: &'a Condition,
+    at: usize,
+) -> Result<Option<Outside<'a>>, AllocError> {
+    let parts = parts_of_condition(alloc, condition, at)?;
+    for part in &parts {
+        if part.depth == 0 && matches!(part.node, Node::Function(_)) {
+            return Ok(fault_of_rule(Rule::FunctionInCheck, part.range));
+        }
+    }
+    match in_rows(alloc, catalog, scope, condition, at)? {
+        Some(found) if matches!(found.rule, Rule::QueryInWhere) => {
+            Ok(fault_of_rule(Rule::QueryInQuery, found.range))
+        }
+        found => Ok(found),
+    }
+}
+
+/// The part of a condition over the rows of a table that is outside the class, if its leaves begin here: of the WHERE
+/// of a rule by rows, or of a CHECK.
+fn in_rows<'a>(
+    alloc: Global,
+    catalog: &'a Catalog,
+    scope: Scope<'a>,
+    condition: &'a Condition,
+    at: usize,
+) -> Result<Option<Outside<'a>>, AllocError> {
+    let parts = parts_of_condition(alloc, condition, at)?;
     for part in &parts {
         if part.depth == 0 {
-            if let Some(found) = in_row(alloc, catalog, known.scope, part)? {
+            if let Some(found) = in_row(alloc, catalog, scope, part)? {
                 return Ok(Some(found));
             }
         }

@@ -29,14 +29,13 @@ pub fn add_violation(
 /// Adds the text of an assertion, and where it stands.
 fn add_rule(story: Story<'_>, place: usize, out: &mut Printout) {
     let definitions = &story.texts.definitions;
-    let Some(piece) = definitions.assertion(place) else {
-        return;
-    };
-    out.add("  the rule, line ");
-    out.show(definitions.line(piece));
-    out.add(" of DEFS: ");
-    definitions.add_piece(piece, out);
-    out.add("\n");
+    if let Some(line) = definitions.rule_line(place) {
+        out.add("  the rule, line ");
+        out.show(line);
+        out.add(" of DEFS: ");
+        definitions.add_rule(place, out);
+        out.add("\n");
+    }
 }
 
 /// Adds where the assertion would be false.

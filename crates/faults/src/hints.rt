@@ -30,6 +30,12 @@ impl<'a> Stop<'a> {
         self.before.last().map_or(Kind::End, |token| token.kind)
     }
 
+    /// The kind of the token before it between which and it so many others stand.
+    fn kind_before(&self, others: usize) -> Kind {
+        let place = self.before.len().saturating_sub(others).saturating_sub(1);
+        self.before.get(place).map_or(Kind::End, |token| token.kind)
+    }
+
     /// The kind of the first token of its definition or line.
     fn first(&self) -> Kind {
         self.before.first().map_or(Kind::End, |token| token.kind)
@@ -43,6 +49,18 @@ impl<'a> Stop<'a> {
             && self.token.kind == Kind::Name
     }
 
+    /// Whether CONSTRAINT and a name stand right before it.
+    fn is_named(&self) -> bool {
+        self.last() == Kind::Name && self.kind_before(1) == Kind::Constraint
+    }
+
+    /// Whether the first name in the parentheses behind REFERENCES and a table stands right before it.
+    fn is_behind_referenced(&self) -> bool {
+        self.last() == Kind::Name
+            && self.kind_before(1) == Kind::Open
+            && self.kind_before(3) == Kind::References
+    }
+
     fn has_before(&self, kind: Kind) -> bool {
         self.before.iter().any(|token| token.kind == kind)
     }
@@ -54,7 +72,7 @@ impl<'a> Stop<'a> {
 }
 
 /// What SQL has and the language has not, with what to write.
-const ELSEWHERE: [(&str, &str); 43] = [
+const ELSEWHERE: [(&str, &str); 41] = [
     (
         "ALTER",
         "Tables are not altered: write the columns into CREATE TABLE.",
@@ -79,8 +97,8 @@ const ELSEWHERE: [(&str, &str); 43] = [
     ("CASE", "There is no CASE. Write the cases with AND and OR."),
     ("CHAR", "The types are INTEGER and VARCHAR(n)."),
     (
-        "CONSTRAINT",
-        "A rule is a definition of its own: CREATE ASSERTION name CHECK (..).",
+        "CASCADE",
+        "A foreign key does nothing by itself: change the rows that refer in the same transaction.",
     ),
     (
         "DATE",
@@ -99,11 +117,6 @@ const ELSEWHERE: [(&str, &str); 43] = [
     (
         "FLOAT",
         "The types are INTEGER and VARCHAR(n). Count hundredths in an INTEGER.",
-    ),
-    (
-        "FOREIGN",
-        "A foreign key is an assertion: NOT EXISTS (SELECT * FROM CHILD C WHERE C.X IS NOT NULL \
-         AND NOT EXISTS (SELECT * FROM PARENT P WHERE P.KEY = C.X)).",
     ),
     (
         "IF",
@@ -134,6 +147,10 @@ const ELSEWHERE: [(&str, &str); 43] = [
         "There is no LIMIT. A SELECT lists every row that its WHERE keeps.",
     ),
     (
+        "MATCH",
+        "There is no MATCH: a row with NULL in one of the columns refers to nothing.",
+    ),
+    (
         "NUMERIC",
         "The types are INTEGER and VARCHAR(n). Count cents in place of euros.",
     ),
@@ -144,11 +161,6 @@ const ELSEWHERE: [(&str, &str); 43] = [
     (
         "REAL",
         "The types are INTEGER and VARCHAR(n). Count hundredths in an INTEGER.",
-    ),
-    (
-        "REFERENCES",
-        "A foreign key is an assertion: NOT EXISTS (SELECT * FROM CHILD C WHERE C.X IS NOT NULL \
-         AND NOT EXISTS (SELECT * FROM PARENT P WHERE P.KEY = C.X)).",
     ),
     (
         "RETURNING",
@@ -193,10 +205,6 @@ const ELSEWHERE: [(&str, &str); 43] = [
         "There is no UNION: write one assertion for each query.",
     ),
     (
-        "UNIQUE",
-        "Uniqueness is an assertion: NOT EXISTS (SELECT C FROM T GROUP BY C HAVING COUNT(*) > 1).",
-    ),
-    (
         "VIEW",
         "There are no views: write the query into the assertion.",
     ),
@@ -237,6 +245,8 @@ fn push_sentence(sentence: &str, advice: &mut String) -> Result<(), AllocError> 
 fn by_kind(stop: &Stop) -> Option<&'static str> {
     by_sign(stop)
         .or(by_quantifier(stop))
+        .or(by_constraint(stop))
+        .or(by_column(stop))
         .or(by_beginning(stop))
         .or(by_list(stop))
 }
@@ -279,6 +289,76 @@ fn by_quantifier(stop: &Stop) -> Option<&'static str> {
     }
 }
 
+/// Of the words of a table's constraints.
+fn by_constraint(stop: &Stop) -> Option<&'static str> {
+    let in_table = stop.has_before(Kind::Table);
+    match (stop.token.kind, stop.last()) {
+        (Kind::Unique, Kind::Create) => {
+            Some("UNIQUE stands in CREATE TABLE, behind the type of a column.")
+        }
+        // (where a name may stand, what is wrong is that the word is reserved)
+        (Kind::Foreign, _) if in_table && stop.may_be(Kind::References) => Some(
+            "Behind a column's type stands REFERENCES T; FOREIGN KEY (C) REFERENCES T stands on a line of its own.",
+        ),
+        (Kind::References, _) if in_table && stop.may_be(Kind::Foreign) => {
+            Some("On a line of its own it is FOREIGN KEY (C) REFERENCES T.")
+        }
+        (Kind::Deferrable, Kind::Not) if in_table && stop.may_be(Kind::Null) => Some(
+            "Behind a column NOT begins NOT NULL. Without a word a constraint is not deferrable.",
+        ),
+        (Kind::On, _) if stop.has_before(Kind::References) && !stop.may_be(Kind::Name) => Some(
+            "A foreign key does nothing by itself: change the rows that refer in the same transaction.",
+        ),
+        _ => None,
+    }
+}
+
+/// Of what stands behind the name of a column, or of a constraint.
+fn by_column(stop: &Stop) -> Option<&'static str> {
+    if !stop.has_before(Kind::Table) {
+        return None;
+    }
+    match (stop.token.kind, stop.last()) {
+        (Kind::Primary, _) if stop.is_named() => {
+            Some("A key has no name: leave CONSTRAINT and the name out.")
+        }
+        (Kind::Not, _) if stop.is_named() => {
+            Some("NOT NULL has no name: leave CONSTRAINT and the name out.")
+        }
+        (Kind::Comma, _) if stop.is_behind_referenced() => {
+            Some(
+                "A column refers to one: to the key of the other table, or to a column of it under UNIQUE.",
+            )
+        }
+        (Kind::Open, Kind::Unique) => {
+            Some("Behind a column it is UNIQUE alone. UNIQUE (C) stands on a line of its own.")
+        }
+        (Kind::Open, Kind::Key) => {
+            Some(
+                "Behind a column it is PRIMARY KEY alone. PRIMARY KEY (C) stands on a line of its own.",
+            )
+        }
+        (kind, Kind::Name) if stop.may_be(Kind::Integer) && is_of_columns(kind) => {
+            Some("A column has a type, which stands behind its name: INTEGER or VARCHAR(n).")
+        }
+        _ => None,
+    }
+}
+
+/// Whether a word begins what is said of a column behind its type.
+fn is_of_columns(kind: Kind) -> bool {
+    matches!(
+        kind,
+        Kind::Check
+            | Kind::Constraint
+            | Kind::Foreign
+            | Kind::Not
+            | Kind::Primary
+            | Kind::References
+            | Kind::Unique
+    )
+}
+
 /// Of what begins a definition, an event or a rule.
 fn by_beginning(stop: &Stop) -> Option<&'static str> {
     match (stop.which, stop.token.kind, stop.last()) {
@@ -296,10 +376,6 @@ fn by_beginning(stop: &Stop) -> Option<&'static str> {
         }
         (Which::Script, _, Kind::End) => Some(
             "Each event stands behind the name of its session and a colon, as in ALICE: BEGIN;",
-        ),
-        (_, Kind::Check, _) if stop.has_before(Kind::Table) => Some(
-            "A rule of a table is a definition of its own: CREATE ASSERTION name CHECK (NOT EXISTS \
-             (SELECT * FROM T WHERE ..)), where WHERE says what no row may be.",
         ),
         _ => None,
     }
@@ -323,9 +399,6 @@ fn is_of_sessions(kind: Kind) -> bool {
 /// Of what stands behind a comma, or of the comma itself.
 fn by_list(stop: &Stop) -> Option<&'static str> {
     match (stop.token.kind, stop.last()) {
-        (Kind::Primary, Kind::Comma) => {
-            Some("PRIMARY KEY stands behind the type of its column: ID INTEGER PRIMARY KEY.")
-        }
         (Kind::Comma, Kind::Close)
             if stop.first() == Kind::Insert || stop.has_before(Kind::Values) => {
             Some("An INSERT puts one row in: write one INSERT for each row.")

@@ -5,7 +5,7 @@ use token::Kind;
 use value::Text;
 
 /// Each kind of token that may stand somewhere, with a text of it.
-pub const WORDS: [(Kind, &str); 70] = [
+pub const WORDS: [(Kind, &str); 74] = [
     (Kind::Name, "X"),
     (Kind::Number, "1"),
     (Kind::Text, "''"),
@@ -33,6 +33,7 @@ pub const WORDS: [(Kind, &str); 70] = [
     (Kind::By, "BY"),
     (Kind::Check, "CHECK"),
     (Kind::Commit, "COMMIT"),
+    (Kind::Constraint, "CONSTRAINT"),
     (Kind::Constraints, "CONSTRAINTS"),
     (Kind::Count, "COUNT"),
     (Kind::Create, "CREATE"),
@@ -42,6 +43,7 @@ pub const WORDS: [(Kind, &str); 70] = [
     (Kind::Distinct, "DISTINCT"),
     (Kind::Exists, "EXISTS"),
     (Kind::False, "FALSE"),
+    (Kind::Foreign, "FOREIGN"),
     (Kind::From, "FROM"),
     (Kind::Group, "GROUP"),
     (Kind::Having, "HAVING"),
@@ -63,12 +65,14 @@ pub const WORDS: [(Kind, &str); 70] = [
     (Kind::Or, "OR"),
     (Kind::Primary, "PRIMARY"),
     (Kind::Read, "READ"),
+    (Kind::References, "REFERENCES"),
     (Kind::Rollback, "ROLLBACK"),
     (Kind::Select, "SELECT"),
     (Kind::Set, "SET"),
     (Kind::Sum, "SUM"),
     (Kind::Table, "TABLE"),
     (Kind::True, "TRUE"),
+    (Kind::Unique, "UNIQUE"),
     (Kind::Unknown, "UNKNOWN"),
     (Kind::Update, "UPDATE"),
     (Kind::Values, "VALUES"),

@@ -12,6 +12,8 @@ pub struct Source<'a> {
     tokens: Vec<Token>,
     /// For each piece its first token, and the semicolon that ends it.
     pieces: Vec<(usize, usize)>,
+    /// For each assertion, in the order of creation, the first token of its text and the one behind it.
+    rules: Vec<(usize, usize)>,
 }
 
 impl<'a> Source<'a> {
@@ -21,18 +23,25 @@ impl<'a> Source<'a> {
             text,
             tokens: Vec::new(alloc),
             pieces: Vec::new(alloc),
+            rules: Vec::new(alloc),
         }
     }
 
-    /// Finds the pieces.
+    /// Finds the pieces, and the assertions that they create.
     ///
     /// # Errors
     ///
-    /// Where there is no memory for them. Which pieces were found is then unknown.
+    /// Where there is no memory for them. Which were found is then unknown.
     pub fn read(&mut self, alloc: Global) -> Result<(), AllocError> {
         self.pieces.clear();
+        self.rules.clear();
         self.tokens = read_tokens(alloc, self.text)?;
-        push_pieces(self.tokens.as_slice(), &mut self.pieces)
+        push_pieces(self.tokens.as_slice(), &mut self.pieces)?;
+        push_rules(
+            self.tokens.as_slice(),
+            self.pieces.as_slice(),
+            &mut self.rules,
+        )
     }
 
     /// The line on which a piece begins, from 1 upwards.
@@ -43,18 +52,15 @@ impl<'a> Source<'a> {
         }
     }
 
-    /// The piece that creates the assertion at this place in the order of creation.
-    pub fn assertion(&self, place: usize) -> Option<usize> {
-        let mut seen = 0usize;
-        for piece in 0..self.pieces.len() {
-            if begins_assertion(self.tokens_of(piece)) {
-                if seen == place {
-                    return Some(piece);
-                }
-                seen = seen.saturating_add(1);
-            }
-        }
-        None
+    /// The line on which the text of an assertion begins, from 1 upwards, by its place in the order of creation.
+    pub fn rule_line(&self, place: usize) -> Option<usize> {
+        let token = self.rule(place).first()?;
+        Some(line_at(self.text, token.start))
+    }
+
+    /// Adds the text of an assertion: what creates it, or the element of CREATE TABLE in which a constraint stands.
+    pub fn add_rule(&self, place: usize, out: &mut Printout) {
+        add_tokens(self.rule(place), self.text, out);
     }
 
     /// Adds a piece without its semicolon, with one space where blanks and comments are.
@@ -67,6 +73,14 @@ impl<'a> Source<'a> {
         match self.tokens_of(piece) {
             [_session, _colon, event @ ..] => add_tokens(event, self.text, out),
             _ => {}
+        }
+    }
+
+    /// The tokens of an assertion.
+    fn rule(&self, place: usize) -> &[Token] {
+        match self.rules.get(place) {
+            Some((first, behind)) => self.tokens.as_slice().get(*first..*behind).unwrap_or(&[]),
+            None => &[],
         }
     }
 
@@ -103,12 +117,71 @@ fn push_pieces(tokens: &[Token], pieces: &mut Vec<(usize, usize)>) -> Result<(),
     Ok(())
 }
 
-/// Whether these are the tokens of CREATE ASSERTION.
-fn begins_assertion(tokens: &[Token]) -> bool {
-    match tokens {
-        [first, second, ..] => first.kind == Kind::Create && second.kind == Kind::Assertion,
-        _ => false,
+/// Puts the texts of the assertions that some pieces create behind the others.
+fn push_rules(
+    tokens: &[Token],
+    pieces: &[(usize, usize)],
+    rules: &mut Vec<(usize, usize)>,
+) -> Result<(), AllocError> {
+    for (first, behind) in pieces {
+        match tokens.get(*first..*behind) {
+            Some([_create, of, ..]) if of.kind == Kind::Assertion => {
+                rules.push((*first, *behind))?;
+            }
+            Some([_create, of, ..]) if of.kind == Kind::Table => {
+                push_constraints(tokens, (*first, *behind), rules)?;
+            }
+            _ => {}
+        }
     }
+    Ok(())
+}
+
+/// Puts the constraints of a table behind the other rules.
+fn push_constraints(
+    tokens: &[Token],
+    piece: (usize, usize),
+    rules: &mut Vec<(usize, usize)>,
+) -> Result<(), AllocError> {
+    let (first, behind) = piece;
+    let mut depth = 0usize;
+    let mut element = first;
+    let mut at = first;
+    for token in tokens.get(first..behind).unwrap_or(&[]) {
+        if depth == 1 && (token.kind == Kind::Comma || token.kind == Kind::Close) {
+            push_constraints_of(tokens, (element, at), rules)?;
+        }
+        match token.kind {
+            Kind::Open => depth = depth.saturating_add(1),
+            Kind::Close => depth = depth.saturating_sub(1),
+            _ => {}
+        }
+        at = at.saturating_add(1);
+        if depth == 1 && (token.kind == Kind::Comma || token.kind == Kind::Open) {
+            element = at;
+        }
+    }
+    Ok(())
+}
+
+/// Puts the constraints of an element of CREATE TABLE, each with the text of the element, behind the other rules.
+fn push_constraints_of(
+    tokens: &[Token],
+    element: (usize, usize),
+    rules: &mut Vec<(usize, usize)>,
+) -> Result<(), AllocError> {
+    let (first, behind) = element;
+    // (REFERENCES begins a constraint behind a column, and goes one on behind FOREIGN KEY)
+    let mut is_foreign = false;
+    for token in tokens.get(first..behind).unwrap_or(&[]) {
+        match token.kind {
+            Kind::Unique | Kind::Check | Kind::Foreign => rules.push(element)?,
+            Kind::References if !is_foreign => rules.push(element)?,
+            _ => {}
+        }
+        is_foreign = is_foreign || token.kind == Kind::Foreign;
+    }
+    Ok(())
 }
 
 /// The line of an offset, from 1 upwards.

@@ -1,4 +1,4 @@
 pub mod Turns
 mod Small
-mod Merging
+pub mod Merging
 mod Taking

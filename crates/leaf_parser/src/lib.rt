@@ -44,7 +44,9 @@ pub use loops::{
     Collection, Part, RepeatedPart, collect_many, expect_after, parse_list, parse_many,
     parse_parens, parse_parens_list,
 };
-pub use names::{NamePart, parse_name, parse_number, parse_signed_number, parse_text, value_of};
-pub use parts::{Ands, Joint, Ors, Products, Sums, parse_joined, parse_joined_boxed};
+pub use names::{
+    NamePart, parse_name, parse_number, parse_signed_number, parse_text, start_list, value_of,
+};
+pub use parts::{Ands, Joint, Ors, Products, Sums, parse_joined, parse_joined_boxed, reverse};
 pub use signs::{parse_comparison_sign, parse_truth};
 pub use stops::{Stop, drop_and_stop, stop_for_depth};

@@ -162,7 +162,7 @@ impl Joint<Condition> for Ors {
 
 /// The items, the last first, so that they can be taken from their front.
 #[tactic(auto, using(value::proofs::Lists::turn_step))]
-fn reverse<T: Drop>(alloc: Global, mut items: Items<T>) -> Result<Items<T>, AllocError>
+pub fn reverse<T: Drop>(alloc: Global, mut items: Items<T>) -> Result<Items<T>, AllocError>
     ensures { IfOk result (λ turned. turned ≡ reverse items) }
 {
     let mut turned = Items::new(alloc);

@@ -35,7 +35,7 @@ next_layout : (b : Bool) (first l : Layout) (o p : Option Layout) → ◌≡◌ 
 next_layout true first l o p e more = e
 next_layout false first l o p e more = more e
 
-layout_grown : (name : List ℕ) (tables more : Tables) (l : Layout) → layout_of name tables ≡ Some l → layout_of name (tables ++ more) ≡ Some l
+pub layout_grown : (name : List ℕ) (tables more : Tables) (l : Layout) → layout_of name tables ≡ Some l → layout_of name (tables ++ more) ≡ Some l
 layout_grown name [] more l e = cc
 layout_grown name (table ∷ tables) more l e = next_layout (pointwise nat_eq name table.0) table.1 l (layout_of name tables) (layout_of name (tables ++ more)) e (layout_grown name tables more l)
 

@@ -1,6 +1,6 @@
 //! The columns of a table that is created.
 
-ghost use Rattle.std.specs.Prelude.{◌≡◌, ◌-◌, true};
+ghost use Rattle.std.specs.Prelude.{◌≡◌, []};
 ghost use Rattle.parse.specs.Widths as spec;
 ghost use Rattle.syntax.specs.SchemaGrammar as grammar;
 ghost use Rattle.syntax.specs.SchemaReaders as reader;
@@ -8,14 +8,16 @@ ghost use Rattle.token.specs.declared.kinds.Kind.TheVariants as k;
 ghost use Rattle.syntax.specs.Reading as rd;
 ghost use Rattle.leaf_parser.specs.Reads.{Reads};
 
+use crate::constraints::{ConstrainedTable, parse_column_constraint};
 use leaf_parser::{
-    Cursor, Part, Piece, Stop, parse_name, parse_parens, parse_parens_list, value_of,
+    Cursor, Part, Piece, RepeatedPart, Stop, drop_and_stop, parse_many, parse_name, parse_parens,
+    value_of,
 };
 use sqlite_items::Items;
 use std::alloc::Global;
-use syntax::{ColumnDefinition, Marks};
+use syntax::{ColumnConstraint, TableElement};
 use token::Kind;
-use value::ColType;
+use value::{ColType, Text};
 
 /// The width that a token says, if it is a number from 1 to 255.
 fn width_of(piece: &Piece<'_>) -> Option<u8>
@@ -79,105 +81,96 @@ fn parse_column_type(cursor: &mut Cursor<'_>, depth: usize) -> Result<ColType, S
     }
 }
 
-/// `[PRIMARY KEY]`, behind NOT NULL.
-fn parse_marks_after_null(cursor: &mut Cursor<'_>) -> Result<Marks, Stop>
-    ensures { Reads
-        (rd.◌<$>◌ (λ key. grammar.marks_of true (grammar.is_present key)) (rd.optional k.Primary reader.primary_key)
-        cursor.old) result cursor.new }
-{
-    if !cursor.is(Kind::Primary) {
-        return Ok(Marks {
-            not_null: true,
-            key: false,
-        });
-    }
-    cursor.expect(Kind::Primary)?;
-    cursor.expect(Kind::Key)?;
-    Ok(Marks {
-        not_null: true,
-        key: true,
-    })
-}
-
-/// `[NOT NULL]`, behind PRIMARY KEY.
-fn parse_marks_after_key(cursor: &mut Cursor<'_>) -> Result<Marks, Stop>
-    ensures { Reads
-        (rd.◌<$>◌ (λ other. grammar.marks_of (grammar.is_present other) true) (rd.optional k.Not reader.not_null)
-        cursor.old) result cursor.new }
-{
-    if !cursor.is(Kind::Not) {
-        return Ok(Marks {
-            not_null: false,
-            key: true,
-        });
-    }
-    cursor.expect(Kind::Not)?;
-    cursor.expect(Kind::Null)?;
-    Ok(Marks {
-        not_null: true,
-        key: true,
-    })
-}
-
-/// `[ NOT NULL [PRIMARY KEY] | PRIMARY KEY [NOT NULL] ]`
-#[tactic(auto, unfolding(syntax::specs::SchemaReaders::marks))]
-fn parse_marks(cursor: &mut Cursor<'_>) -> Result<Marks, Stop>
-    ensures { Reads (reader.marks cursor.old) result cursor.new }
-{
-    match cursor.peek() {
-        Kind::Not => {
-            cursor.expect(Kind::Not)?;
-            cursor.expect(Kind::Null)?;
-            parse_marks_after_null(cursor)
-        }
-        Kind::Primary => {
-            cursor.expect(Kind::Primary)?;
-            cursor.expect(Kind::Key)?;
-            parse_marks_after_key(cursor)
-        }
-        _ => Ok(Marks {
-            not_null: false,
-            key: false,
-        }),
-    }
-}
-
-/// `name type [ NOT NULL [PRIMARY KEY] | PRIMARY KEY [NOT NULL] ]`, where so many parentheses may be opened.
+/// What stands behind the type of a column of a table that is created.
 #[derive(Drop)]
-struct Column {
-    alloc: Global,
-    depth: usize,
+struct BehindColumn<'a> {
+    table: ConstrainedTable<'a>,
+    column: &'a Text,
 }
 
-impl Part for Column {
+impl<'a> Part for BehindColumn<'a> {
     ghost use Rattle.syntax.specs.SchemaReaders as reader;
 
-    type Tree = ColumnDefinition;
+    type Tree = ColumnConstraint;
 
     ghost ready = { λ _. Unit {0} };
 
-    ghost reader = { λ c. reader.col c.depth };
+    ghost reader = { λ b. reader.column_constraint b.table.depth b.table.name.now b.column.now };
 
-    #[tactic(auto, unfolding(syntax::specs::SchemaReaders::col))]
-    fn parse(&self, cursor: &mut Cursor<'_>) -> Result<ColumnDefinition, Stop> {
-        let name = parse_name(self.alloc, cursor)?;
-        let kind = parse_column_type(cursor, self.depth)?;
-        let marks = parse_marks(cursor)?;
-        Ok(ColumnDefinition { name, kind, marks })
+    /// `NOT NULL | PRIMARY KEY | [CONSTRAINT name] (UNIQUE | CHECK (cond) | REFERENCES name [(name)]) [attributes]`
+    #[tactic(auto, unfolding(syntax::specs::SchemaReaders::column_constraint))]
+    fn parse(&self, cursor: &mut Cursor<'_>) -> Result<ColumnConstraint, Stop> {
+        match cursor.peek() {
+            Kind::Not => {
+                cursor.expect(Kind::Not)?;
+                cursor.expect(Kind::Null)?;
+                Ok(ColumnConstraint::NotNull)
+            }
+            Kind::Primary => {
+                cursor.expect(Kind::Primary)?;
+                cursor.expect(Kind::Key)?;
+                Ok(ColumnConstraint::PrimaryKey)
+            }
+            _ => Ok(ColumnConstraint::Constraint(parse_column_constraint(
+                cursor,
+                &self.table,
+                self.column,
+            )?)),
+        }
     }
 }
 
-/// `"(" col { "," col } ")"`
-pub fn parse_parens_columns(
-    alloc: Global,
+impl<'a> RepeatedPart for BehindColumn<'a> {
+    ghost use Rattle.syntax.specs.SchemaReaders as reader;
+
+    ghost begins = { reader.starts_column_constraint };
+
+    fn begins(&self, kind: Kind) -> bool {
+        matches!(
+            kind,
+            Kind::Not
+                | Kind::Primary
+                | Kind::Constraint
+                | Kind::Unique
+                | Kind::Check
+                | Kind::References
+        )
+    }
+}
+
+/// `{ constraint }`, behind the type of a column.
+fn parse_behind_column(
     cursor: &mut Cursor<'_>,
-    depth: usize,
-) -> Result<Items<ColumnDefinition>, Stop>
-    ensures { Reads (rd.parens depth (rd.list (reader.col (depth - 1))) cursor.old) result cursor.new }
+    table: &ConstrainedTable<'_>,
+    column: &Text,
+) -> Result<Items<ColumnConstraint>, Stop>
+    ensures { Reads (rd.all reader.starts_column_constraint
+        (reader.column_constraint table.now.depth table.now.name.now column.now) [] cursor.old) result cursor.new }
 {
-    let column = Column {
-        alloc,
-        depth: depth.saturating_sub(1),
+    let found = Items::new(table.alloc);
+    let part = BehindColumn {
+        table: *table,
+        column,
     };
-    parse_parens_list(alloc, &column, cursor, depth)
+    parse_many(&part, cursor, found)
+}
+
+/// `name type { constraint }`
+#[tactic(auto, unfolding(syntax::specs::SchemaReaders::column))]
+pub fn parse_column(
+    cursor: &mut Cursor<'_>,
+    table: &ConstrainedTable<'_>,
+) -> Result<TableElement, Stop>
+    ensures { Reads (reader.column table.now.depth table.now.name.now cursor.old) result cursor.new }
+{
+    let name = parse_name(table.alloc, cursor)?;
+    let kind = parse_column_type(cursor, table.depth)?;
+    match parse_behind_column(cursor, table, &name) {
+        Ok(constraints) => Ok(TableElement::Column {
+            name,
+            kind,
+            constraints,
+        }),
+        Err(stop) => Err(drop_and_stop(stop, name)),
+    }
 }

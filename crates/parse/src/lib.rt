@@ -47,11 +47,13 @@
 mod attributes;
 mod calls;
 mod columns;
+mod constraints;
 mod events;
 mod inserts;
 mod schemas;
 mod scripts;
 mod statements;
+mod tables;
 mod wholes;
 
 pub use calls::{parse_schema, parse_schema_into, parse_script, parse_statement};

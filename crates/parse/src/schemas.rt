@@ -7,8 +7,8 @@ ghost use Rattle.syntax.specs.Reading as rd;
 ghost use Rattle.leaf_parser.specs.Reads.{Collects, Reads};
 
 use crate::attributes::parse_attributes;
-use crate::columns::parse_parens_columns;
 use crate::inserts::parse_insert;
+use crate::tables::parse_table;
 use condition_parser::parse_condition;
 use leaf_parser::{
     Collection, Cursor, NamePart, Part, RepeatedPart, Stop, collect_many, drop_and_stop,
@@ -18,17 +18,6 @@ use sqlite_items::Boxed;
 use std::alloc::Global;
 use syntax::{Condition, Definition};
 use token::Kind;
-
-/// `TABLE name "(" col { "," col } ")"`
-#[tactic(auto, unfolding(syntax::specs::SchemaReaders::table))]
-fn parse_table(alloc: Global, cursor: &mut Cursor<'_>, depth: usize) -> Result<Definition, Stop>
-    ensures { Reads (reader.table depth cursor.old) result cursor.new }
-{
-    cursor.expect(Kind::Table)?;
-    let name = parse_name(alloc, cursor)?;
-    let columns = parse_parens_columns(alloc, cursor, depth)?;
-    Ok(Definition::Table { name, columns })
-}
 
 /// A condition, where so many parentheses may be opened.
 #[derive(Drop)]
@@ -52,7 +41,7 @@ impl Part for CheckedCondition {
 }
 
 /// `"(" cond ")"`
-fn parse_parens_condition(
+pub fn parse_parens_condition(
     alloc: Global,
     cursor: &mut Cursor<'_>,
     depth: usize,

@@ -12,8 +12,11 @@ use Rattle.syntax.proofs.Loops.{finds_after, kind_first, finds_all, Loops, Openi
 abbrev pub rank : Kind → ℕ
 rank k.Dot = 10
 rank k.Star = 9
+rank k.Open = 9
 rank k.Plus = 8
 rank k.Minus = 8
+rank k.Initially = 8
+rank k.Deferrable = 8
 rank k.Equal = 7
 rank k.NotEqual = 7
 rank k.Less = 7
@@ -25,21 +28,22 @@ rank k.Not = 7
 rank k.Between = 7
 rank k.In = 7
 rank k.And = 6
+rank k.Constraint = 6
 rank k.Or = 5
 rank k.Primary = 5
+rank k.Unique = 5
+rank k.Check = 5
+rank k.References = 5
 rank k.Comma = 4
 rank k.As = 4
 rank k.Name = 4
 rank k.Where = 3
 rank k.Group = 2
 rank k.Having = 1
-rank k.Open = 1
 rank k.Create = 1
 rank k.Insert = 1
 rank k.Work = 1
 rank k.Read = 1
-rank k.Initially = 1
-rank k.Deferrable = 1
 rank _ = 0
 
 -- with any tokens behind it, a text begins with a kind of which P holds

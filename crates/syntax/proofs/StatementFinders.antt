@@ -1,10 +1,9 @@
 -- Each reader of statements finds the texts of its part of the grammar.
-use Rattle.std.proofs.Common.{◌≡◌, ℕ, ◌+◌, ◌≤◌, ◌<◌, true, false, List, ◌++◌, refl, inl, inr, arith}
+use Rattle.std.proofs.Common.{◌≡◌, ℕ, ◌+◌, ◌≤◌, true, false, List, ◌++◌, refl, inl, inr, arith}
 use Rattle.token.specs.declared.kinds.Kind.{Kind}
 use Rattle.token.specs.declared.kinds.Kind.TheVariants as k
 use Rattle.value.specs.declared.values.Value.{Value}
 use Rattle.value.specs.declared.values.Value.TheVariants as c
-use Rattle.syntax.specs.declared.statements.Insert.{Insert}
 use Rattle.syntax.specs.declared.statements.UpdateSource.{UpdateSource}
 use Rattle.syntax.specs.declared.statements.UpdateSource.TheVariants as to
 use Rattle.syntax.specs.declared.statements.Which.{Which}

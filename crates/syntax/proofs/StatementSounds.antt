@@ -3,7 +3,6 @@ use Rattle.std.proofs.Common.{ℕ, ◌+◌, ◌<◌, true, false, refl, inl, inr
 use Rattle.token.specs.declared.kinds.Kind.{Kind}
 use Rattle.token.specs.declared.kinds.Kind.TheVariants as k
 use Rattle.value.specs.declared.values.Value.TheVariants as c
-use Rattle.syntax.specs.declared.statements.Insert.{Insert}
 use Rattle.syntax.specs.declared.statements.UpdateSource.TheVariants as to
 use Rattle.syntax.specs.declared.statements.Which.TheVariants as which
 use Rattle.syntax.specs.declared.statements.Mode.TheVariants as mode

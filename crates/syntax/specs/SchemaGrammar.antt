@@ -1,18 +1,27 @@
 -- The grammar of definitions and scripts: which texts of tokens have which trees.
-use Rattle.std.specs.Prelude.{ℕ, Bool, true, false, ◌&&◌, nat_le, List, [], Option, Some, None, codes}
+use Rattle.std.specs.Prelude.{ℕ, Bool, true, false, ◌&&◌, nat_le, List, [], ◌∷◌, Option, Some, None, codes}
+use Rattle.std.specs.List.{flat_map, list_any}
 use Rattle.std.specs.Str.{bytes_eq}
 use Rattle.token.specs.declared.kinds.Kind.TheVariants as k
 use Rattle.value.specs.declared.values.ColType.{ColType}
 use Rattle.value.specs.declared.values.ColType.TheVariants as kind_of
-use Rattle.syntax.specs.declared.definitions.Marks.{Marks}
+use Rattle.syntax.specs.declared.definitions.ColumnConstraint.{ColumnConstraint}
+use Rattle.syntax.specs.declared.definitions.ColumnConstraint.TheVariants as on_column
 use Rattle.syntax.specs.declared.definitions.ColumnDefinition.{ColumnDefinition}
+use Rattle.syntax.specs.declared.definitions.Constraint.{Constraint}
+use Rattle.syntax.specs.declared.definitions.Constraint.TheVariants.{Unique, Check, ForeignKey}
+use Rattle.syntax.specs.declared.definitions.TableConstraint.{TableConstraint}
+use Rattle.syntax.specs.declared.definitions.TableElement.{TableElement}
+use Rattle.syntax.specs.declared.definitions.TableElement.TheVariants as element
+use Rattle.syntax.specs.declared.trees.Condition.{Condition}
+use Rattle.syntax.specs.declared.trees.Condition.TheVariants.{Not, Exists}
+use Rattle.syntax.specs.declared.trees.SelectList.TheVariants.{Star}
 use Rattle.syntax.specs.declared.definitions.Attributes.{Attributes}
 use Rattle.syntax.specs.declared.statements.Mode.{Mode}
 use Rattle.syntax.specs.declared.definitions.Definition.{Definition}
 use Rattle.syntax.specs.declared.definitions.Definition.TheVariants as d
 use Rattle.syntax.specs.declared.statements.ScriptLine.{ScriptLine}
 use Rattle.syntax.specs.declared.statements.Event.{Event}
-use Rattle.syntax.specs.declared.statements.Insert.{Insert}
 use Rattle.syntax.specs.declared.wants.PartInParentheses.{PartInParentheses}
 use Rattle.syntax.specs.Grammar.{digits_value, name, name_of, inner_cond, nested}
 use Rattle.syntax.specs.StatementGrammar.{insert, check_time, one_event}
@@ -40,29 +49,6 @@ not_null = token k.Not >> token k.Null
 abbrev pub primary_key : Language Lexeme
 primary_key = token k.Primary >> token k.Key
 
--- whether a part that may be missing is written
-abbrev pub is_present : {A : Type 0} → Option A → Bool
-is_present None = false
-is_present (Some x) = true
-
--- what stands behind a column's type: whether NOT NULL, and whether PRIMARY KEY
-abbrev pub marks_of : Bool → Bool → Marks
-marks_of not_null key = record { not_null = not_null; key = key }
-
--- [ NOT NULL [PRIMARY KEY] | PRIMARY KEY [NOT NULL] ]
-unfoldable pub marks : Language Marks
-marks =
-    pure (marks_of false false) ∪ (not_null >> ((λ key. marks_of true (is_present key)) <$> optional primary_key))
-    ∪ (primary_key >> ((λ other. marks_of (is_present other) true) <$> optional not_null))
-
--- the tree of a column definition
-abbrev pub column_definition : List ℕ → ColType → Marks → ColumnDefinition
-column_definition name kind marks = record { name = name; kind = kind; marks = marks }
-
--- col: name type [..]
-unfoldable pub col : Language ColumnDefinition
-col = name >>= (λ name. column_type >>= (λ kind. column_definition name kind <$> marks))
-
 -- when: INITIALLY ( DEFERRED | IMMEDIATE )
 unfoldable pub initially : Language Mode
 initially = token k.Initially >> check_time
@@ -81,9 +67,93 @@ attributes =
     pure (attributes_of None None) ∪ (initially >>= (λ mode. attributes_of (Some mode) <$> optional deferrable))
     ∪ (deferrable >>= (λ may. (λ mode. attributes_of mode (Some may)) <$> optional initially))
 
--- CREATE TABLE name "(" col { "," col } ")"
-unfoldable pub table : Language Definition
-table = token k.Create >> (token k.Table >> (name >>= (λ name. d.Table name <$> parens (list col))))
+-- [ when [DEFERRABLE] | DEFERRABLE [when] ], behind a column: there NOT is that of NOT NULL
+unfoldable pub column_attributes : Language Attributes
+column_attributes =
+    pure (attributes_of None None)
+    ∪ (initially >>= (λ mode. attributes_of (Some mode) <$> optional (token k.Deferrable >> pure true)))
+    ∪ (token k.Deferrable >> ((λ mode. attributes_of mode (Some true)) <$> optional initially))
+
+-- "(" name { "," name } ")"
+abbrev pub names : Language (List (List ℕ))
+names = parens (list name)
+
+-- ---- the trees of constraints and of tables
+
+-- The condition that a CHECK of a table stands for (11.9): NOT EXISTS (SELECT * FROM table WHERE NOT (condition)).
+abbrev pub is_false_of_no_row : (table : List ℕ) → Condition → Condition
+is_false_of_no_row table condition = Not (Exists (record {
+  select_list = Star;
+  table = table;
+  correlation_name = None;
+  keeps = Some (Not condition);
+  group = None;
+  having = None;
+}))
+
+-- the tree of a CHECK, which may stand behind a column
+abbrev pub check_of : (table : List ℕ) → (column : Option (List ℕ)) → Condition → Constraint
+check_of table column condition = Check column (is_false_of_no_row table condition)
+
+-- the tree of a foreign key: the columns that refer, the table that they refer to, and its columns where they
+-- are written
+abbrev pub foreign_key : (columns : List (List ℕ)) → (table : List ℕ) → Option (List (List ℕ)) → Constraint
+foreign_key columns table referenced = ForeignKey (record { columns = columns; table = table; referenced = referenced })
+
+-- a constraint with its name and its attributes
+abbrev pub constraint_of : Option (List ℕ) → Constraint → Attributes → TableConstraint
+constraint_of name constraint attributes = record { name = name; constraint = constraint; attributes = attributes }
+
+-- [ CONSTRAINT name ], what a constraint says, and its attributes
+abbrev pub constrained : Language Constraint → Language Attributes → Language TableConstraint
+constrained rule attributes =
+    optional (token k.Constraint >> name) >>= (λ name. rule >>= (λ c. constraint_of name c <$> attributes))
+
+-- whether it is NOT NULL
+abbrev pub is_not_null : ColumnConstraint → Bool
+is_not_null on_column.NotNull = true
+is_not_null on_column.PrimaryKey = false
+is_not_null (on_column.Constraint c) = false
+
+-- the key that PRIMARY KEY makes of a column
+abbrev pub key_by : (column : List ℕ) → ColumnConstraint → List (List (List ℕ))
+key_by column on_column.NotNull = []
+key_by column on_column.PrimaryKey = (column ∷ []) ∷ []
+key_by column (on_column.Constraint c) = []
+
+-- the constraint that stands behind a column
+abbrev pub constraint_by : ColumnConstraint → List TableConstraint
+constraint_by on_column.NotNull = []
+constraint_by on_column.PrimaryKey = []
+constraint_by (on_column.Constraint c) = c ∷ []
+
+-- the column that a table element defines
+abbrev pub column_in : TableElement → List ColumnDefinition
+column_in (element.Column name kind constraints) =
+    record { name = name; kind = kind; not_null = list_any is_not_null constraints } ∷ []
+column_in (element.PrimaryKey columns) = []
+column_in (element.Constraint c) = []
+
+-- the columns of each PRIMARY KEY of a table element
+abbrev pub keys_in : TableElement → List (List (List ℕ))
+keys_in (element.Column name kind constraints) = flat_map (key_by name) constraints
+keys_in (element.PrimaryKey columns) = columns ∷ []
+keys_in (element.Constraint c) = []
+
+-- the constraints of a table element
+abbrev pub constraints_in : TableElement → List TableConstraint
+constraints_in (element.Column column kind constraints) = flat_map constraint_by constraints
+constraints_in (element.PrimaryKey columns) = []
+constraints_in (element.Constraint c) = c ∷ []
+
+-- the tree of a table definition
+abbrev pub table_of : (name : List ℕ) → List TableElement → Definition
+table_of name elements = d.Table (record {
+  name = name;
+  columns = flat_map column_in elements;
+  keys = flat_map keys_in elements;
+  constraints = flat_map constraints_in elements;
+})
 
 -- INDEX, which is a name wherever no index is created
 abbrev pub is_index : Lexeme → Bool
@@ -100,6 +170,48 @@ abbrev pub script_line_of : List ℕ → Event → ScriptLine
 script_line_of session event = record { session = session; event = event }
 
 module _ (inner : Language PartInParentheses) where
+  -- CHECK "(" cond ")", of a table and the column behind which it stands, if it stands behind one
+  unfoldable pub check : (table : List ℕ) → (column : Option (List ℕ)) → Language Constraint
+  check table column = token k.Check >> (check_of table column <$> parens (inner_cond inner))
+
+  -- what a column may be bound to: UNIQUE | CHECK "(" cond ")" | REFERENCES name [ "(" name ")" ]
+  unfoldable pub column_rule : (table column : List ℕ) → Language Constraint
+  column_rule table column =
+      (token k.Unique >> pure (Unique (column ∷ []))) ∪ check table (Some column) ∪
+      (token k.References >> (name >>= (λ other.
+      foreign_key (column ∷ []) other <$> optional ((λ x. x ∷ []) <$> parens name))))
+
+  -- colcon: NOT NULL | PRIMARY KEY | [ CONSTRAINT name ] ( UNIQUE | .. ) [cattrs]
+  unfoldable pub column_constraint : (table column : List ℕ) → Language ColumnConstraint
+  column_constraint table column =
+      (not_null >> pure on_column.NotNull) ∪ (primary_key >> pure on_column.PrimaryKey) ∪
+      (on_column.Constraint <$> constrained (column_rule table column) column_attributes)
+
+  -- tabcon: UNIQUE names | CHECK "(" cond ")" | FOREIGN KEY names REFERENCES name [names]
+  unfoldable pub table_rule : (table : List ℕ) → Language Constraint
+  table_rule table =
+      (token k.Unique >> (Unique <$> names)) ∪ check table None ∪
+      (token k.Foreign >> (token k.Key >> (names >>= (λ columns.
+      token k.References >> (name >>= (λ other. foreign_key columns other <$> optional names))))))
+
+  -- name type { colcon }
+  unfoldable pub column : (table : List ℕ) → Language TableElement
+  column table =
+      name >>= (λ name. column_type >>= (λ kind.
+      element.Column name kind <$> Behind [] (column_constraint table name)))
+
+  -- element: name type { colcon } | PRIMARY KEY names | [ CONSTRAINT name ] tabcon [attrs]
+  unfoldable pub table_element : (table : List ℕ) → Language TableElement
+  table_element table =
+      column table ∪ (primary_key >> (element.PrimaryKey <$> names)) ∪
+      (element.Constraint <$> constrained (table_rule table) attributes)
+
+  -- CREATE TABLE name "(" element { "," element } ")"
+  unfoldable pub table : Language Definition
+  table =
+      token k.Create >> (token k.Table >> (name >>= (λ name.
+      table_of name <$> parens (list (table_element name)))))
+
   -- CREATE ASSERTION name CHECK "(" cond ")" [attrs]
   unfoldable pub assertion : Language Definition
   assertion =

@@ -1,19 +1,23 @@
 -- Readers of definitions and scripts, by the next token alone.
-use Rattle.std.specs.Prelude.{ℕ, ◌-◌, Bool, true, false, List, [], Option, Some, None}
+use Rattle.std.specs.Prelude.{ℕ, ◌-◌, Bool, true, false, List, [], ◌∷◌, Option, Some, None}
 use Rattle.token.specs.declared.kinds.Kind.{Kind}
 use Rattle.token.specs.declared.kinds.Kind.TheVariants as k
 use Rattle.value.specs.declared.values.ColType.{ColType}
 use Rattle.value.specs.declared.values.ColType.TheVariants as kind_of
-use Rattle.syntax.specs.declared.definitions.Marks.{Marks}
-use Rattle.syntax.specs.declared.definitions.ColumnDefinition.{ColumnDefinition}
+use Rattle.syntax.specs.declared.definitions.ColumnConstraint.{ColumnConstraint}
+use Rattle.syntax.specs.declared.definitions.ColumnConstraint.TheVariants as on_column
+use Rattle.syntax.specs.declared.definitions.Constraint.{Constraint}
+use Rattle.syntax.specs.declared.definitions.Constraint.TheVariants.{Unique}
+use Rattle.syntax.specs.declared.definitions.TableConstraint.{TableConstraint}
+use Rattle.syntax.specs.declared.definitions.TableElement.{TableElement}
+use Rattle.syntax.specs.declared.definitions.TableElement.TheVariants as element
 use Rattle.syntax.specs.declared.definitions.Attributes.{Attributes}
 use Rattle.syntax.specs.declared.statements.Mode.{Mode}
 use Rattle.syntax.specs.declared.definitions.Definition.{Definition}
 use Rattle.syntax.specs.declared.definitions.Definition.TheVariants as d
 use Rattle.syntax.specs.declared.statements.ScriptLine.{ScriptLine}
-use Rattle.syntax.specs.declared.statements.Insert.{Insert}
 use Rattle.syntax.specs.Readers.{name, cond_at}
-use Rattle.syntax.specs.SchemaGrammar.{is_index, is_width, varchar_of, is_present, marks_of, column_definition, attributes_of, script_line_of}
+use Rattle.syntax.specs.SchemaGrammar.{is_index, is_width, varchar_of, attributes_of, check_of, foreign_key, constraint_of, table_of, script_line_of}
 use Rattle.syntax.specs.StatementReaders.{insert, check_time, one_event}
 use Rattle.syntax.specs.Language.{Lexeme}
 use Rattle.syntax.specs.Reading.{Reader, ◌>>=◌, ◌>>◌, ◌<$>◌, pure, refuse, by_kind, expect, expect_where, optional, list, all, parens}
@@ -25,16 +29,6 @@ not_null = expect k.Not >> expect k.Null
 -- reads PRIMARY KEY
 abbrev pub primary_key : Reader Lexeme
 primary_key = expect k.Primary >> expect k.Key
-
--- what follows a column's type, by the kind of the next token
-abbrev pub marks_by : Kind → Reader Marks
-marks_by k.Not = not_null >> ((λ key. marks_of true (is_present key)) <$> optional k.Primary primary_key)
-marks_by k.Primary = primary_key >> ((λ other. marks_of (is_present other) true) <$> optional k.Not not_null)
-marks_by _ = pure (marks_of false false)
-
--- reads [ NOT NULL [PRIMARY KEY] | PRIMARY KEY [NOT NULL] ]
-unfoldable pub marks : Reader Marks
-marks = by_kind marks_by
 
 -- reads when: INITIALLY ( DEFERRED | IMMEDIATE )
 unfoldable pub initially : Reader Mode
@@ -79,6 +73,45 @@ attributes_by _ = pure (attributes_of None None)
 unfoldable pub attributes : Reader Attributes
 attributes = by_kind attributes_by
 
+-- reads when [DEFERRABLE]
+unfoldable pub column_initially_first : Reader Attributes
+column_initially_first =
+    initially >>= (λ mode. attributes_of (Some mode) <$> optional k.Deferrable (expect k.Deferrable >> pure true))
+
+-- reads DEFERRABLE [when]
+unfoldable pub column_deferrable_first : Reader Attributes
+column_deferrable_first =
+    expect k.Deferrable >> ((λ mode. attributes_of mode (Some true)) <$> optional k.Initially initially)
+
+-- the attributes of a constraint behind a column, by the kind of the next token
+abbrev pub column_attributes_by : Kind → Reader Attributes
+column_attributes_by k.Initially = column_initially_first
+column_attributes_by k.Deferrable = column_deferrable_first
+column_attributes_by _ = pure (attributes_of None None)
+
+-- reads [cattrs]: the attributes of a constraint behind a column
+unfoldable pub column_attributes : Reader Attributes
+column_attributes = by_kind column_attributes_by
+
+-- reads [ CONSTRAINT name ]
+unfoldable pub constraint_name : Reader (Option (List ℕ))
+constraint_name = optional k.Constraint (expect k.Constraint >> name)
+
+-- reads [ CONSTRAINT name ] constraint attributes
+abbrev pub constrained : Reader Constraint → Reader Attributes → Reader TableConstraint
+constrained constraint attributes =
+    constraint_name >>= (λ name. constraint >>= (λ c. constraint_of name c <$> attributes))
+
+-- whether what stands behind a column goes on
+abbrev pub starts_column_constraint : Kind → Bool
+starts_column_constraint k.Not = true
+starts_column_constraint k.Primary = true
+starts_column_constraint k.Constraint = true
+starts_column_constraint k.Unique = true
+starts_column_constraint k.Check = true
+starts_column_constraint k.References = true
+starts_column_constraint _ = false
+
 -- whether definitions go on: with CREATE or INSERT
 abbrev pub starts_definition : Kind → Bool
 starts_definition k.Create = true
@@ -103,15 +136,82 @@ module _ (n : ℕ) where
   unfoldable pub column_type : Reader ColType
   column_type = by_kind type_by
 
-  -- reads col: a column definition
-  unfoldable pub col : Reader ColumnDefinition
-  col = name >>= (λ name. column_type >>= (λ kind. column_definition name kind <$> marks))
+  -- reads names: "(" name { "," name } ")"
+  unfoldable pub names : Reader (List (List ℕ))
+  names = parens n (list name)
+
+  -- reads CHECK "(" cond ")", of a table and the column behind which it stands, if it stands behind one
+  unfoldable pub check : (table : List ℕ) → (column : Option (List ℕ)) → Reader Constraint
+  check table column = expect k.Check >> (check_of table column <$> parens n (cond_at (n - 1)))
+
+  -- reads REFERENCES name [ "(" name ")" ], behind a column
+  unfoldable pub references : (column : List ℕ) → Reader Constraint
+  references column =
+      expect k.References >> (name >>= (λ other.
+      foreign_key (column ∷ []) other <$> optional k.Open ((λ x. x ∷ []) <$> parens n name)))
+
+  -- what a column may be bound to, by the kind of the next token
+  abbrev pub column_rule_by : (table column : List ℕ) → Kind → Reader Constraint
+  column_rule_by table column k.Unique = expect k.Unique >> pure (Unique (column ∷ []))
+  column_rule_by table column k.Check = check table (Some column)
+  column_rule_by table column _ = references column
+
+  -- reads UNIQUE | CHECK "(" cond ")" | REFERENCES name [ "(" name ")" ]
+  unfoldable pub column_rule : (table column : List ℕ) → Reader Constraint
+  column_rule table column = by_kind (column_rule_by table column)
+
+  -- what stands behind a column's type, by the kind of the next token
+  abbrev pub column_constraint_by : (table column : List ℕ) → Kind → Reader ColumnConstraint
+  column_constraint_by table column k.Not = not_null >> pure on_column.NotNull
+  column_constraint_by table column k.Primary = primary_key >> pure on_column.PrimaryKey
+  column_constraint_by table column _ =
+      on_column.Constraint <$> constrained (column_rule table column) column_attributes
+
+  -- reads colcon: what stands behind a column's type
+  unfoldable pub column_constraint : (table column : List ℕ) → Reader ColumnConstraint
+  column_constraint table column = by_kind (column_constraint_by table column)
+
+  -- reads UNIQUE names
+  unfoldable pub unique : Reader Constraint
+  unique = expect k.Unique >> (Unique <$> names)
+
+  -- reads FOREIGN KEY names REFERENCES name [names]
+  unfoldable pub foreign : Reader Constraint
+  foreign =
+      expect k.Foreign >> (expect k.Key >> (names >>= (λ columns.
+      expect k.References >> (name >>= (λ other. foreign_key columns other <$> optional k.Open names)))))
+
+  -- what the rows of a table satisfy, by the kind of the next token
+  abbrev pub table_rule_by : (table : List ℕ) → Kind → Reader Constraint
+  table_rule_by table k.Unique = unique
+  table_rule_by table k.Check = check table None
+  table_rule_by table _ = foreign
+
+  -- reads tabcon: UNIQUE names | CHECK "(" cond ")" | FOREIGN KEY names REFERENCES name [names]
+  unfoldable pub table_rule : (table : List ℕ) → Reader Constraint
+  table_rule table = by_kind (table_rule_by table)
+
+  -- reads name type { colcon }
+  unfoldable pub column : (table : List ℕ) → Reader TableElement
+  column table =
+      name >>= (λ name. column_type >>= (λ kind.
+      element.Column name kind <$> all starts_column_constraint (column_constraint table name) []))
+
+  -- what stands between the commas of CREATE TABLE, by the kind of the next token
+  abbrev pub table_element_by : (table : List ℕ) → Kind → Reader TableElement
+  table_element_by table k.Name = column table
+  table_element_by table k.Primary = primary_key >> (element.PrimaryKey <$> names)
+  table_element_by table _ = element.Constraint <$> constrained (table_rule table) attributes
+
+  -- reads element: a column with its constraints, or a constraint on a line of its own
+  unfoldable pub table_element : (table : List ℕ) → Reader TableElement
+  table_element table = by_kind (table_element_by table)
 
 -- what may be opened where no parenthesis of the definition is open
 module _ (n : ℕ) where
   -- reads a table definition, behind CREATE
   unfoldable pub table : Reader Definition
-  table = expect k.Table >> (name >>= (λ name. d.Table name <$> parens n (list (col (n - 1)))))
+  table = expect k.Table >> (name >>= (λ name. table_of name <$> parens n (list (table_element (n - 1) name))))
 
   -- reads an assertion definition (11.34), behind CREATE
   unfoldable pub assertion : Reader Definition

@@ -80,10 +80,15 @@
 //!
 //! ```text
 //! defs   = { def ";" }                     script = { name ":" event ";" }
-//! def    = CREATE TABLE name "(" col { "," col } ")"
+//! def    = CREATE TABLE name "(" element { "," element } ")"
 //!        | CREATE ASSERTION name CHECK "(" cond ")" [attrs] | insert
 //!        | CREATE INDEX name ON name "(" name ")"         (INDEX is no reserved word)
-//! col    = name type [ NOT NULL [PRIMARY KEY] | PRIMARY KEY [NOT NULL] ]
+//! element = name type { colcon } | PRIMARY KEY names | [ CONSTRAINT name ] tabcon [attrs]
+//! colcon = NOT NULL | PRIMARY KEY
+//!        | [ CONSTRAINT name ] ( UNIQUE | CHECK "(" cond ")" | REFERENCES name [ "(" name ")" ] ) [cattrs]
+//! tabcon = UNIQUE names | CHECK "(" cond ")" | FOREIGN KEY names REFERENCES name [names]
+//! names  = "(" name { "," name } ")"
+//! cattrs = when [DEFERRABLE] | DEFERRABLE [when]           (behind a column NOT begins NOT NULL)
 //! type   = INTEGER | INT | VARCHAR "(" number ")"          (a number from 1 to 255)
 //! attrs  = when [defer] | defer [when]
 //! when   = INITIALLY ( DEFERRED | IMMEDIATE )              defer = [NOT] DEFERRABLE
@@ -102,8 +107,10 @@
 //! whole texts, among them that a refusal stands at the first wrong token.
 //!
 //! [`event_has_one_tree`], [`schema_has_one_tree`] and [`script_has_one_tree`] are the laws that no
-//! text has two trees. A tree keeps what was written and judges nothing: a name may be unknown, a
-//! key not marked NOT NULL, attributes at odds.
+//! text has two trees. A tree keeps what was written and judges nothing: a name may be unknown, a table without a
+//! key, attributes at odds. Of a table it has the columns, the keys and the constraints, each in the order of the text;
+//! a constraint behind a column is one of the table that names the column. Of a CHECK it has the condition that the
+//! standard says the constraint by: NOT EXISTS (SELECT * FROM table WHERE NOT (..)).
 #![tactic(auto)]
 
 mod definitions;
@@ -113,7 +120,10 @@ mod statements;
 mod trees;
 mod wants;
 
-pub use definitions::{Attributes, ColumnDefinition, Definition, Marks};
+pub use definitions::{
+    Attributes, ColumnConstraint, ColumnDefinition, Constraint, Definition, ForeignKey,
+    TableConstraint, TableDefinition, TableElement,
+};
 pub use laws::condition_has_one_tree;
 pub use statement_laws::{event_has_one_tree, schema_has_one_tree, script_has_one_tree};
 pub use statements::{Assignment, Event, Insert, Mode, ScriptLine, Statement, UpdateSource, Which};

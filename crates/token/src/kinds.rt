@@ -39,6 +39,7 @@ pub enum Kind {
     By,
     Check,
     Commit,
+    Constraint,
     Constraints,
     Count,
     Create,
@@ -48,6 +49,7 @@ pub enum Kind {
     Distinct,
     Exists,
     False,
+    Foreign,
     From,
     Group,
     Having,
@@ -69,12 +71,14 @@ pub enum Kind {
     Or,
     Primary,
     Read,
+    References,
     Rollback,
     Select,
     Set,
     Sum,
     Table,
     True,
+    Unique,
     Unknown,
     Update,
     Values,
@@ -127,7 +131,7 @@ pub(crate) const WORDS_OF_5: [(&[u8], Kind); 7] = [
     (b"WHERE", Kind::Where),
 ];
 
-pub(crate) const WORDS_OF_6: [(&[u8], Kind); 9] = [
+pub(crate) const WORDS_OF_6: [(&[u8], Kind); 10] = [
     (b"COMMIT", Kind::Commit),
     (b"CREATE", Kind::Create),
     (b"DELETE", Kind::Delete),
@@ -135,12 +139,14 @@ pub(crate) const WORDS_OF_6: [(&[u8], Kind); 9] = [
     (b"HAVING", Kind::Having),
     (b"INSERT", Kind::Insert),
     (b"SELECT", Kind::Select),
+    (b"UNIQUE", Kind::Unique),
     (b"UPDATE", Kind::Update),
     (b"VALUES", Kind::Values),
 ];
 
-pub(crate) const WORDS_OF_7: [(&[u8], Kind); 6] = [
+pub(crate) const WORDS_OF_7: [(&[u8], Kind); 7] = [
     (b"BETWEEN", Kind::Between),
+    (b"FOREIGN", Kind::Foreign),
     (b"INTEGER", Kind::Integer),
     (b"PRIMARY", Kind::Primary),
     (b"UNKNOWN", Kind::Unknown),
@@ -160,7 +166,11 @@ pub(crate) const WORDS_OF_9: [(&[u8], Kind); 3] = [
     (b"INITIALLY", Kind::Initially),
 ];
 
-pub(crate) const WORDS_OF_10: [(&[u8], Kind); 1] = [(b"DEFERRABLE", Kind::Deferrable)];
+pub(crate) const WORDS_OF_10: [(&[u8], Kind); 3] = [
+    (b"CONSTRAINT", Kind::Constraint),
+    (b"DEFERRABLE", Kind::Deferrable),
+    (b"REFERENCES", Kind::References),
+];
 
 pub(crate) const WORDS_OF_11: [(&[u8], Kind); 1] = [(b"CONSTRAINTS", Kind::Constraints)];
 

@@ -1,11 +1,15 @@
-use Rattle.std.proofs.Common.{◌≡◌, ◌∙◌, ap, sym, ℕ, ◌==◌, cond, List, Option, None, count_by, position}
-use Rattle.syntax.specs.declared.definitions.ColumnDefinition.{ColumnDefinition}
+use Rattle.std.proofs.Common.{◌≡◌, ℕ, List, [], ◌∷◌, length, get_or, sym, ◌∙◌, ap, arith}
 use Rattle.definitions.specs.Tables.{only_key}
 use Rattle.definitions.proofs.tables.only_key.Goals as goal
 
--- with one key, its place
-only_one : (columns : List ColumnDefinition) (count : ℕ) (place : Option ℕ) → count ≡ count_by (λ d. d.marks.key) columns → count ≡ 1 → place ≡ position (λ d. d.marks.key) columns → place ≡ only_key columns
-only_one columns count place counted one placed = placed ∙ sym (ap (λ n. cond (n == 1) (position (λ d. d.marks.key) columns) None) (sym counted ∙ one))
+-- a list of one
+single : {X : Type 0} (xs : List X) (x : X) → length xs ≡ 1 → x ≡ get_or xs 0 x → xs ≡ x ∷ []
+single [] x long is = absurd (omega (arith, long))
+single (y ∷ []) x long is = ap (λ z. z ∷ []) (sym is)
+single (y ∷ z ∷ rest) x long is = absurd (omega (arith, long))
 
-pub returns-then-key_count-eq1-clause-key : goal.returns-then-key_count-eq1-clause-key
-returns-then-key_count-eq1-clause-key c = only_one c.args.columns.now c.key_count.result c.first_key.result c.key_count.ensures c.if-key_count-eq1.true c.first_key.ensures.place
+pub returns-clause-key : goal.returns-clause-key
+returns-clause-key c =
+    let keys = single c.args.keys.now c.names-item.result (omega (arith, c.in-len1.len_at_least, c.in-len1.len_below)) c.names-item.is in
+    let names = single c.as_slice.result.now c.name-item.result (omega (arith, c.in-len1-as_slice.len_at_least, c.in-len1-as_slice.len_below)) c.name-item.is in
+    c.place_of.ensures.place ∙ sym (ap (only_key c.args.columns.now) (keys ∙ ap (λ (ns : List (List ℕ)). ns ∷ []) (sym c.as_slice.ensures ∙ names)))
