@@ -1,11 +1,12 @@
 #!/usr/bin/env python3
-"""Runs the gate and says how many processor minutes each crate took: its proof, its tests' proof, its must-fail edits.
+"""Runs the gate and says how many processor minutes each crate took: its proof, its tests' proof, its edits.
 
     tools/gate_minutes.py [--log FILE] [--add FILE] [NAME ..]
 
-runs `rt ci` here, or `rt ci NAME ..` with a kit whose gate takes names, and prints the table of docs/GATE.md. Where the
-gate keeps what it passed, a later run doesn't do it again, and the minutes of several runs belong together: with
-`--add FILE` those of this run are added to what FILE (JSON) has of earlier ones, and the table is of all of them.
+runs `rt ci` here and then `tools/edits.py --behind-gate`, or `rt ci NAME ..` alone, and prints the table of
+docs/GATE.md. Where the gate keeps what it passed, a later run doesn't do it again, and the minutes of several runs
+belong together: with `--add FILE` those of this run are added to what FILE (JSON) has of earlier ones, and the table is
+of all of them.
 
 The gate itself reports no times. Its work is done by processes of the prover, one a check, so this reads from /proc
 what each of its own has used so far, every half second, and adds up by the crate that its command line names. What a
@@ -17,15 +18,15 @@ from __future__ import annotations
 import collections
 import json
 import os
-import re
 import resource
 import subprocess
 import sys
 import time
-from collections.abc import Callable
+import typing
+from collections.abc import Callable, Sequence
 
 from harness.arguments import parser_of
-from harness.crates import BY_HAND, IN_GATE, edges, edits_of
+from harness.crates import edges
 from harness.programs import TOP
 from harness.texts import Path
 
@@ -51,14 +52,12 @@ def label(pid: str) -> Label | None:
     try:
         with open(f"/proc/{pid}/cmdline", "rb") as it:
             words = it.read().decode(errors="replace").split("\0")
-        folder = os.readlink(f"/proc/{pid}/cwd")
     except OSError:
         return None
     if not words[0].endswith("/rattle") or "--crate-name" not in words:
         return None
     crate = words[words.index("--crate-name") + 1]
-    # (an edit is tried on a copy of the crate in a folder of its own)
-    if re.search(r"/rt-edits?-", folder):
+    if "--only" in words:
         return crate, "edits"
     return crate, "tests" if "--test" in words else "proof"
 
@@ -95,27 +94,21 @@ def watch(is_running: Callable[[], bool], top: str) -> Seconds:
     return table
 
 
-def counts_of_edits(crate: str) -> list[int]:
-    """How many edits of a crate the gate tries, and how many tools/edits.py tries."""
-    return [len(edits_of(crate, [folder])) for folder in (IN_GATE, BY_HAND)]
-
-
 def show(table: Seconds) -> None:
     crates = sorted({crate for crate, _ in table}, key=lambda it: -sum(table[it, kind] for kind in KINDS))
-    print("| crate | proof | tests | edits | together | edits in the gate, by hand |\n|---|---|---|---|---|---|")
+    print("| crate | proof | tests | edits | together |\n|---|---|---|---|---|")
     for crate in crates:
         minutes = [table[crate, kind] / 60 for kind in KINDS]
         cells = " | ".join(f"{it:.1f}" for it in [*minutes, sum(minutes)])
-        print(f"| `{crate}` | {cells} | {', '.join(map(str, counts_of_edits(crate)))} |")
+        print(f"| `{crate}` | {cells} |")
     sums = [sum(table[it, kind] for it in crates) / 60 for kind in KINDS]
     cells = " | ".join(f"{it:.1f}" for it in [*sums, sum(sums)])
-    counts = map(sum, zip(*(counts_of_edits(it) for it in crates)))
-    print(f"| all of these | {cells} | {', '.join(map(str, counts))} |")
+    print(f"| all of these | {cells} |")
 
 
 def longest_chain(table: Seconds) -> Chain:
     """The crates of which each waits for the proof of the one before it, and what they take together. Beside the proof
-    of the last one stand its tests, and behind both its edits."""
+    of the last one stand its tests; edits wait for all crates."""
     below = edges()
     chains: dict[str, Chain] = {}
 
@@ -130,8 +123,7 @@ def longest_chain(table: Seconds) -> Chain:
 
     def whole(crate: str) -> Chain:
         spent, under = before(crate)
-        proof, tests, edits = (table[crate, kind] for kind in KINDS)
-        return spent + max(proof, tests) + edits, [*under, crate]
+        return spent + max(table[crate, "proof"], table[crate, "tests"]), [*under, crate]
 
     return max(map(whole, below))
 
@@ -147,6 +139,14 @@ def add(file: Path, table: Seconds) -> Seconds:
     return table
 
 
+def spend(command: Sequence[str], log: typing.IO[str], table: Seconds) -> int:
+    """Runs a command of the gate and adds what it spends to the table; gives its status."""
+    with subprocess.Popen(command, cwd=TOP, stdin=subprocess.DEVNULL, stdout=log, stderr=subprocess.STDOUT) as gate:
+        for crate_and_kind, seconds in watch(lambda: gate.poll() is None, str(gate.pid)).items():
+            table[crate_and_kind] += seconds
+    return gate.returncode
+
+
 def main() -> int:
     parser = parser_of(__doc__)
     parser.add_argument("--log", default="gate.log", help="where what the gate prints goes")
@@ -154,10 +154,12 @@ def main() -> int:
     parser.add_argument("names", nargs="*", metavar="NAME", help="a crate; the gate then goes over it and those below")
     words = parser.parse_args()
     begin = time.time()
+    commands = [["rt", "ci", *words.names], *([] if words.names else [["tools/edits.py", "--behind-gate"]])]
+    table: Seconds = collections.defaultdict(float)
+    status = 0
     with open(words.log, "w") as log:
-        gate = subprocess.Popen(["rt", "ci", *words.names], cwd=TOP, stdin=subprocess.DEVNULL, stdout=log,
-            stderr=subprocess.STDOUT)
-        table = watch(lambda: gate.poll() is None, str(gate.pid))
+        for command in commands:
+            status = status or spend(command, log, table)
     table = add(words.add, table) if words.add else table
     show(table)
     minutes, chain = longest_chain(table)
@@ -167,7 +169,7 @@ def main() -> int:
           f"{(spent.ru_utime + spent.ru_stime) / 60:.0f} processor minutes of all processes.")
     with open(words.log) as log:
         print(log.read().rstrip().rsplit("\n", 1)[-1])
-    return gate.returncode
+    return status
 
 
 if __name__ == "__main__":

@@ -4,12 +4,10 @@ from __future__ import annotations
 import pathlib
 import shutil
 import sys
-from collections.abc import Iterable
 
 from .programs import TOP
 
 CRATES = TOP / "crates"
-IN_GATE, BY_HAND = "must-fail", "edits"  # the folders of a crate's edits
 Edges = dict[str, list[str]]
 
 
@@ -40,9 +38,9 @@ def with_those_below(crate: str, stands_on: Edges) -> set[str]:
     return found
 
 
-def edits_of(crate: str, folders: Iterable[str] = (IN_GATE, BY_HAND)) -> list[pathlib.Path]:
-    """The files of a crate's edits, in the order of their paths."""
-    return sorted(file for folder in folders for file in (CRATES / crate / folder).glob("*.edit"))
+def edits_of(crate: str) -> list[pathlib.Path]:
+    """The files of a crate's edits, in the order of their names."""
+    return sorted((CRATES / crate / "edits").glob("*.edit"))
 
 
 def path_of_rt(otherwise: str) -> pathlib.Path:

@@ -224,10 +224,9 @@ class Crates(unittest.TestCase):
         self.assertEqual(crates.with_those_below("a", stands_on), {"a", "b", "c", "kit"})
 
     def test_edits(self) -> None:
-        both = crates.edits_of("table")
-        apart = [crates.edits_of("table", [folder]) for folder in (crates.IN_GATE, crates.BY_HAND)]
-        self.assertEqual(sorted(sum(apart, [])), both)
-        self.assertTrue(both and all(edit.suffix == ".edit" for edit in both))
+        edits = crates.edits_of("table")
+        self.assertTrue(edits and all(edit.suffix == ".edit" for edit in edits))
+        self.assertEqual(sorted(edits), edits)
 
     def test_edges(self) -> None:
         edges = crates.edges()
