@@ -201,7 +201,7 @@ pub fn in_check<'a>(
             return Ok(fault_of_rule(Rule::FunctionInCheck, part.range));
         }
     }
-    match in_rows(alloc, catalog, scope, condition, at)? {
+    match among_parts(alloc, catalog, scope, parts.as_slice())? {
         Some(found) if matches!(found.rule, Rule::QueryInWhere) => {
             Ok(fault_of_rule(Rule::QueryInQuery, found.range))
         }
@@ -209,8 +209,7 @@ pub fn in_check<'a>(
     }
 }
 
-/// The part of a condition over the rows of a table that is outside the class, if its leaves begin here: of the WHERE
-/// of a rule by rows, or of a CHECK.
+/// The part of a WHERE of a rule by rows that is outside the class, if its leaves begin here.
 fn in_rows<'a>(
     alloc: Global,
     catalog: &'a Catalog,
@@ -219,7 +218,18 @@ fn in_rows<'a>(
     at: usize,
 ) -> Result<Option<Outside<'a>>, AllocError> {
     let parts = parts_of_condition(alloc, condition, at)?;
-    for part in &parts {
+    among_parts(alloc, catalog, scope, parts.as_slice())
+}
+
+/// The part that is outside the class among those of a condition over the rows of a table: of the WHERE of a rule by
+/// rows, or of a CHECK.
+fn among_parts<'a>(
+    alloc: Global,
+    catalog: &'a Catalog,
+    scope: Scope<'a>,
+    parts: &[Part<'a>],
+) -> Result<Option<Outside<'a>>, AllocError> {
+    for part in parts {
         if part.depth == 0 {
             if let Some(found) = in_row(alloc, catalog, scope, part)? {
                 return Ok(Some(found));

@@ -71,6 +71,10 @@ impl<'a> Stop<'a> {
     }
 }
 
+/// Of ON DELETE and CASCADE.
+const NO_REFERENTIAL_ACTION: &str =
+    "A foreign key does nothing by itself: change the rows that refer in the same transaction.";
+
 /// What SQL has and the language has not, with what to write.
 const ELSEWHERE: [(&str, &str); 41] = [
     (
@@ -96,10 +100,7 @@ const ELSEWHERE: [(&str, &str); 41] = [
     ),
     ("CASE", "There is no CASE. Write the cases with AND and OR."),
     ("CHAR", "The types are INTEGER and VARCHAR(n)."),
-    (
-        "CASCADE",
-        "A foreign key does nothing by itself: change the rows that refer in the same transaction.",
-    ),
+    ("CASCADE", NO_REFERENTIAL_ACTION),
     (
         "DATE",
         "The types are INTEGER and VARCHAR(n). A day as a number, 20261125, has the right order.",
@@ -306,9 +307,9 @@ fn by_constraint(stop: &Stop) -> Option<&'static str> {
         (Kind::Deferrable, Kind::Not) if in_table && stop.may_be(Kind::Null) => Some(
             "Behind a column NOT begins NOT NULL. Without a word a constraint is not deferrable.",
         ),
-        (Kind::On, _) if stop.has_before(Kind::References) && !stop.may_be(Kind::Name) => Some(
-            "A foreign key does nothing by itself: change the rows that refer in the same transaction.",
-        ),
+        (Kind::On, _) if stop.has_before(Kind::References) && !stop.may_be(Kind::Name) => {
+            Some(NO_REFERENTIAL_ACTION)
+        }
         _ => None,
     }
 }
