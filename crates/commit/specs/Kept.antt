@@ -31,8 +31,8 @@ pending_of None = None
 pending_of (Some p) = Some (record { session = p.session; txn = p.closed })
 
 -- The tables after the last commit; for each commit the least one to which it conflicts, or its own number, and how far
--- it reaches; and the numbers in serial order. Each commit was accepted over those before it, and recorded as it runs alone on its
--- snapshot.
+-- it reaches; and the numbers in serial order. Each commit was accepted over those before it, and recorded as it runs
+-- alone on its snapshot.
 pub record IsCore (c : CoreState) (newest : ViewState) (places reaches order : List ℕ) : Type 0 where
   pub epoch : IsEpoch c.declared c.start (log_of c)
   pub newest_is : newest ≡ newest_tables c

@@ -59,7 +59,8 @@ replies_to session lines answers = replies_after session [] lines answers
 
 -- The COMMIT of a record stands among the events, was answered with its number, and up to there its session was told
 -- these replies.
-pub record WasTold (lines : List ScriptLine) (answers : List Answer) (commit : Record) (replies : Replies) : Type 0 where
+pub record WasTold (lines : List ScriptLine) (answers : List Answer) (commit : Record) (replies : Replies) :
+    Type 0 where
   pub place : ℕ
   pub asked : slice_get lines place ≡ Some (record { session = commit.session; event = Commit })
   pub accepted : slice_get answers place ≡ Some (Committed commit.number)

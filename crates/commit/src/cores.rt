@@ -123,8 +123,8 @@ impl Core {
         })
     }
 
-    /// A transaction begins on the newest tables. The transactions that have committed hold nothing of these any more, so
-    /// that they can settle.
+    /// A transaction begins on the newest tables. The transactions that have committed hold nothing of these any more,
+    /// so that they can settle.
     ///
     /// # Errors
     ///

@@ -43,7 +43,8 @@ least_writing newest (one ∷ rest) = least_with one (least_writing newest rest)
 
 -- each of them that may write holds at least so many commits
 abbrev pub writers_hold : (snapshot : ℕ) → List LiveSnapshot → Bool
-writers_hold snapshot snapshots = list_all (λ (one : LiveSnapshot). one.read_only || nat_le snapshot one.snapshot) snapshots
+writers_hold snapshot snapshots =
+    list_all (λ (one : LiveSnapshot). one.read_only || nat_le snapshot one.snapshot) snapshots
 
 -- whether an open transaction with another begin number, which may write, has a snapshot below so far a reach: it may
 -- ask for what is read up to there

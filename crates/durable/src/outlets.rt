@@ -6,8 +6,8 @@ ghost use Rattle.durable.specs.Batches.{entries_waiting};
 use crate::ledgers::Ledger;
 use journal::Device;
 
-/// The writer of a ledger's answers. Nothing reaches it but by [`Outlet::open`], and so nothing while a commit waits for
-/// its sync: who reads an answer may act on it, and no crash may undo what it told him.
+/// The writer of a ledger's answers. Nothing reaches it but by [`Outlet::open`], and so nothing while a commit waits
+/// for its sync: who reads an answer may act on it, and no crash may undo what it told him.
 #[derive(Drop)]
 pub struct Outlet<W> {
     out: W,

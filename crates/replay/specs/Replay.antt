@@ -13,7 +13,8 @@ use Rattle.replay.specs.Texts.{AreReady}
 use Rattle.replay.specs.Lines.{report}
 
 -- the engine before the first event of the script
-pub record IsBeginning (defs script : List ℕ) (limit : ℕ) (engine : EngineState) (lines : List ScriptLine) : Type 0 where
+pub record IsBeginning (defs script : List ℕ) (limit : ℕ) (engine : EngineState) (lines : List ScriptLine) :
+    Type 0 where
   pub shown : ViewState
   pub ready : AreReady defs script shown lines
   pub sound : IsSound shown.declared shown.state

@@ -10,12 +10,12 @@ use Rattle.replay.specs.Reports.{answer_lines}
 use Rattle.replay.specs.Lines.{report}
 
 -- an event is answered, and the writer gains the lines of the answer
-pub record PrintsAnswer (before : EngineState) (line : ScriptLine) (left : EngineState) (old new : Option (List ℕ)) : Type 0
-  where
-    pub answer : Answer
-    pub answered : IsAnswered before line answer
-    pub leaves : left ≡ after before line answer
-    pub written : Appends old new (answer_line line answer)
+pub record PrintsAnswer (before : EngineState) (line : ScriptLine) (left : EngineState) (old new : Option (List ℕ)) :
+    Type 0 where
+  pub answer : Answer
+  pub answered : IsAnswered before line answer
+  pub leaves : left ≡ after before line answer
+  pub written : Appends old new (answer_line line answer)
 
 -- events are answered, each after those before it, and the writer gains the lines of the answers
 pub record PrintsAnswers (before : EngineState) (lines : List ScriptLine) (left : EngineState)

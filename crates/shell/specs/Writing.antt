@@ -33,7 +33,8 @@ left_by_all now [] = now
 left_by_all now (outcome ∷ outcomes) = left_by_all (left_by now outcome) outcomes
 
 -- an event is answered, and this is what it leaves
-pub record IsAnsweredNow (before : EngineState) (line : ScriptLine) (answer : Answer) (left : EngineState) : Type 0 where
+pub record IsAnsweredNow (before : EngineState) (line : ScriptLine) (answer : Answer) (left : EngineState) :
+    Type 0 where
   pub answered : IsAnswered (engine_with_seat before line.session) line answer
   pub leaves : left ≡ after (engine_with_seat before line.session) line answer
 
@@ -56,19 +57,22 @@ pub record Feeds (before : EngineState) (rest : Rest) (left : EngineState) (last
   pub written : Appends old new (output_lines outcomes)
 
 -- nothing was left to read, and nothing has changed
-pub record IsOver (before : EngineState) (rest : Rest) (left : EngineState) (last : Rest) (from old new : Option (List ℕ)) : Type 0 where
+pub record IsOver (before : EngineState) (rest : Rest) (left : EngineState) (last : Rest)
+    (from old new : Option (List ℕ)) : Type 0 where
   pub at_end : IsAtEnd from
   pub left_is : left ≡ before
   pub last_is : last ≡ rest
   pub same : new ≡ old
 
 -- a turn reads more, or says that nothing is left
-abbrev pub Turns : (more : Bool) → EngineState → Rest → EngineState → Rest → (from to old new : Option (List ℕ)) → Type 0
+abbrev pub Turns : (more : Bool) → EngineState → Rest → EngineState → Rest → (from to old new : Option (List ℕ))
+    → Type 0
 Turns true before rest left last from to old new = Feeds before rest left last from to old new
 Turns false before rest left last from to old new = IsOver before rest left last from old new
 
 -- all bytes that a reader has are read, each piece that they end has its outcome, and the writer gains the lines
-pub record FeedsAll (before : EngineState) (rest : Rest) (left : EngineState) (last : Rest) (from old new : Option (List ℕ)) : Type 0 where
+pub record FeedsAll (before : EngineState) (rest : Rest) (left : EngineState) (last : Rest)
+    (from old new : Option (List ℕ)) : Type 0 where
   pub bytes : List ℕ
   pub all : IfSome from (λ known. bytes ≡ known)
   pub outcomes : List Outcome
@@ -79,7 +83,8 @@ pub record FeedsAll (before : EngineState) (rest : Rest) (left : EngineState) (l
   pub written : Appends old new (output_lines outcomes)
 
 -- a piece has its outcome, and the writer gains its line
-pub record Answers (before : EngineState) (piece : Piece) (left : EngineState) (old new : Option (List ℕ)) : Type 0 where
+pub record Answers (before : EngineState) (piece : Piece) (left : EngineState) (old new : Option (List ℕ)) :
+    Type 0 where
   pub outcome : Outcome
   pub is : IsOutcome piece outcome
   pub run : IsRun before outcome
@@ -87,14 +92,16 @@ pub record Answers (before : EngineState) (piece : Piece) (left : EngineState) (
   pub written : Appends old new (output_line outcome)
 
 -- the last byte that was read ends a piece, which is answered and cut off
-pub record AnswersWhole (more : Bool) (before : EngineState) (rest : Rest) (left : EngineState) (last : Rest) (old new : Option (List ℕ)) : Type 0 where
+pub record AnswersWhole (more : Bool) (before : EngineState) (rest : Rest) (left : EngineState) (last : Rest)
+    (old new : Option (List ℕ)) : Type 0 where
   pub some : more ≡ true
   pub ends : rest.place ≡ End
   pub answers : Answers before (whole_of rest) left old new
   pub cut : last ≡ cut_off rest
 
 -- nothing was read, or its last byte ends no piece
-pub record AnswersNone (more : Bool) (before : EngineState) (rest : Rest) (left : EngineState) (last : Rest) (old new : Option (List ℕ)) : Type 0 where
+pub record AnswersNone (more : Bool) (before : EngineState) (rest : Rest) (left : EngineState) (last : Rest)
+    (old new : Option (List ℕ)) : Type 0 where
   pub goes_on : more ≡ true → rest.bytes ≢ [] → rest.place ≢ End
   pub left_is : left ≡ before
   pub last_is : last ≡ rest

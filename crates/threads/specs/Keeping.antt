@@ -24,18 +24,23 @@ module _ {D : Type 0} (seen : D → List ℕ) (may_leave : D → List ℕ → Ty
     pub did : DidKeep seen may_leave moment left_since old.writer new.writer number changes true
     pub none : entries_waiting new.writer.batch ≡ []
 
-  -- It could not be kept, and that is noted: the writer was asked in vain, or not at all.
+  -- the writer was not asked, or in vain
+  abbrev pub DidKeepNothing : (old new : KeepingState D) → (number : ℕ) → List Change → Type 0
+  DidKeepNothing old new number changes =
+      (new.writer ≡ old.writer) ⊎ DidKeep seen may_leave moment left_since old.writer new.writer number changes false
+
+  -- It could not be kept, and that is noted.
   pub record HasFailed (old new : KeepingState D) (number : ℕ) (changes : List Change) : Type 0 where
     pub next : new.next ≡ old.next
     pub noted : new.has_failed ≡ true
-    pub did : (new.writer ≡ old.writer) ⊎ DidKeep seen may_leave moment left_since old.writer new.writer number changes false
+    pub did : DidKeepNothing old new number changes
 
   abbrev pub HasAnswered : (old new : KeepingState D) → (number : ℕ) → List Change → Bool → Type 0
   HasAnswered old new number changes true = HasKeptNext old new number changes
   HasAnswered old new number changes false = HasFailed old new number changes
 
-  -- What became of a COMMIT is what it was answered. One that is answered a number was kept under it. One that is marked
-  -- was asked for in vain. Of any other nobody was asked to keep anything.
+  -- What became of a COMMIT is what it was answered. One that is answered a number was kept under it. One that is
+  -- marked was asked for in vain. Of any other nobody was asked to keep anything.
   abbrev pub IsKeptAs : (old new : KeepingState D) → List Change → Answer → (is_unkept : Bool) → Type 0
   IsKeptAs old new changes (Committed number) is_unkept = HasKeptNext old new number changes
   IsKeptAs old new changes answer true = (number : ℕ) × HasFailed old new number changes

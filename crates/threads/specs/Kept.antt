@@ -19,8 +19,8 @@ pub record AreScripts (script : List ℕ) (scripts : List Script) : Type 0 where
 
 -- The writer gained the report of some answers to these scripts, one for each line or the one refusal of a session that
 -- was not run, and of some commits over these tables, as many as were kept, and nothing else.
-pub record WritesKept (scripts : List Script) (loaded : ViewState) (limit : ℕ) (all : Bool) (old new : Option (List ℕ)) :
-    Type 0 where
+pub record WritesKept (scripts : List Script) (loaded : ViewState) (limit : ℕ) (all : Bool)
+    (old new : Option (List ℕ)) : Type 0 where
   pub found : List ScriptAnswers
   pub next : ℕ
   pub answered : AreAnswered scripts found

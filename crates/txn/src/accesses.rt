@@ -8,8 +8,8 @@ ghost use Rattle.txn.specs.Transactions.{reads_only};
 pub enum Access {
     /// BEGIN.
     ReadWrite,
-    /// BEGIN READ ONLY: INSERT, UPDATE and DELETE are refused. The transaction may stand earlier in the serial order, so
-    /// that fewer commits are refused for it, itself among them.
+    /// BEGIN READ ONLY: INSERT, UPDATE and DELETE are refused. The transaction may stand earlier in the serial order,
+    /// so that fewer commits are refused for it, itself among them.
     ReadOnly,
 }
 
