@@ -309,6 +309,11 @@ class Maker:
     # ---- statements
 
     def insert(self, table: str, tidy: bool = False) -> Statement:
+        rows = [self.row(table, tidy) for _ in range(self.pick([1, 1, 1, 2, 3]))]
+        return Statement(f'INSERT INTO {table} VALUES {", ".join(row.own for row in rows)}',
+                         f'INSERT INTO "{table}" VALUES {", ".join(row.theirs for row in rows)}')
+
+    def row(self, table: str, tidy: bool) -> Statement:
         values = []
         for column in self.tables[table]:
             is_given = tidy and not column.takes_null or column.is_key
@@ -318,8 +323,7 @@ class Maker:
             elif tidy or column.is_key and self.chance(0.9):
                 value = number(self.pick(range(9))) if column.kind == 'INTEGER' else Tree('text', (self.pick('ABab'),))
             values.append(value)
-        return Statement(f'INSERT INTO {table} VALUES ({", ".join(map(own, values))})',
-                         f'INSERT INTO "{table}" VALUES ({", ".join(map(theirs, values))})')
+        return Statement(f'({", ".join(map(own, values))})', f'({", ".join(map(theirs, values))})')
 
     def where(self, table: str) -> Statement:
         if self.chance(0.15):

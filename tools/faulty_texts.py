@@ -99,7 +99,9 @@ TEXTS = {
     "check-of-no-near-column": "CREATE TABLE T (CHECK (C > 0), ID INTEGER PRIMARY KEY);\n",
     "false-constraint": "CREATE TABLE T (ID INTEGER PRIMARY KEY, A INTEGER CHECK (A > 0), B INTEGER UNIQUE);\n"
         "INSERT INTO T VALUES (1, 1, 7);\nINSERT INTO T VALUES (2, 1, 7);\n",
-    "two-rows": "CREATE TABLE T (ID INTEGER PRIMARY KEY);\nINSERT INTO T VALUES (1), (2);\n",
+    "rows-without-a-comma": "CREATE TABLE T (ID INTEGER PRIMARY KEY);\nINSERT INTO T VALUES (1) (2);\n",
+    "rows-without-parentheses": "CREATE TABLE T (ID INTEGER PRIMARY KEY);\nINSERT INTO T VALUES 1, 2;\n",
+    "rows-with-a-comma-too-many": "CREATE TABLE T (ID INTEGER PRIMARY KEY);\nINSERT INTO T VALUES (1), (2),;\n",
     "not-equal": rule("NOT EXISTS (SELECT * FROM DUTY WHERE ONCALL != 1)"),
     "equals-null": rule("NOT EXISTS (SELECT * FROM DUTY WHERE DOCTOR = NULL)"),
     "join": rule("NOT EXISTS (SELECT * FROM DUTY D JOIN SHIFTS S ON D.SHIFT = S.ID)"),
@@ -152,6 +154,20 @@ TEXTS = {
     "null-for-not-null": TABLES + "INSERT INTO ACCT (ID, OWNER) VALUES (1, 'KIM');\n",
     "text-too-long": TABLES + "INSERT INTO DUTY VALUES (1, 7, 'MONTGOMERY-SMITH', 1);\n",
     "key-taken": TABLES + "INSERT INTO SHIFTS VALUES (7, 8);\nINSERT INTO SHIFTS VALUES (7, 9);\n",
+    "too-many-values-in-a-row": TABLES + "INSERT INTO SHIFTS VALUES (7, 8), (8, 8, 9);\n",
+    "too-few-values-in-a-row": TABLES
+        + "INSERT INTO DUTY (ID, DOCTOR, SHIFT) VALUES (1, 'KIM', 7),\n    (2, 'LEE'), (3, 'MAX', 7);\n",
+    "text-for-number-in-a-row": TABLES
+        + "INSERT INTO DUTY (ID, SHIFT) VALUES\n    (1, -7),\n    (2, 'NINE'),\n    (3, '9');\n",
+    "null-in-a-row": TABLES + "INSERT INTO ACCT VALUES (1, NULL, -5), (2, NULL, NULL);\n",
+    "null-for-not-null-in-each-row": TABLES + "INSERT INTO ACCT (ID, OWNER) VALUES (1, 'KIM'), (2, 'LEE');\n",
+    "text-too-long-in-a-row": TABLES
+        + "INSERT INTO DUTY VALUES (1, 7, 'KIM', 1),\n    (2, 7, 'MONTGOMERY-SMITH', 1);\n",
+    "key-twice": TABLES + "INSERT INTO SHIFTS VALUES (7, 8), (8, 8), (-7, 8), (7, 9);\n",
+    "key-taken-in-a-row": TABLES
+        + "INSERT INTO SHIFTS VALUES (7, 8), (8, 8);\nINSERT INTO SHIFTS VALUES (9, 8), (8, 9);\n",
+    "key-taken-before-rules": "CREATE TABLE T (ID INTEGER PRIMARY KEY);\nINSERT INTO T VALUES (1), (2);\n"
+        "INSERT INTO T VALUES (3), (2), (2);\nCREATE TABLE U (ID INTEGER PRIMARY KEY);\n",
     "false-by-rows": TABLES
         + "CREATE ASSERTION SHORT CHECK (NOT EXISTS (SELECT * FROM SHIFTS WHERE HOURS > 12));\n"
         "INSERT INTO SHIFTS VALUES (7, 24);\n",
@@ -168,6 +184,10 @@ TEXTS = {
         + "---\nALICE: BEGIN;\nALICE: UPDATE DUTY SET ONCAL = 1 WHERE ID = 7;\n"
         "ALICE: DELETE FROM DUTY WHERE DOCTOR = 7;\nALICE: UPDATE SHIFTS SET ID = 8 WHERE ID = 7;\n"
         "ALICE: VERDICT COVERED;\n",
+    "script-rows": TABLES
+        + "---\nALICE: BEGIN;\nALICE: INSERT INTO SHIFTS VALUES (7, 8), (7, 9);\n"
+        "ALICE: INSERT INTO ACCT VALUES (1, 'KIM', 5), (2, NULL, NULL);\n"
+        "ALICE: INSERT INTO ACCT (ID, BAL) VALUES (1, 5), (2, 5, 5), (3, NULL);\n",
 }
 
 

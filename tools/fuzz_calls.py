@@ -78,6 +78,7 @@ SCHEMAS = CLINIC, CLINIC, BANK, PLAIN
 STATEMENTS = {
     "INSERT INTO DUTY VALUES (?, ?, ?, ?)": "nnto",
     "INSERT INTO DUTY (ID, ONCALL, SHIFT) VALUES (?, ?, 1)": "no",
+    "INSERT INTO DUTY (ID, SHIFT, ONCALL) VALUES (?, 1, ?), (?, ?, 1)": "nonn",
     "UPDATE DUTY SET ONCALL = ? WHERE ID = ?": "on",
     "UPDATE DUTY SET ONCALL = 0 WHERE ID = ?": "n",
     "UPDATE DUTY SET ONCALL = ONCALL - ?, DOCTOR = 'EVE' WHERE SHIFT = ? OR ID = ?": "nnn",

@@ -83,6 +83,8 @@ def long_scripts() -> Iterator[tuple[str, str, Wanted]]:
     yield "commas", "A: INSERT INTO T VALUES (" + "," * LONG, refused("SCRIPT", "2 - SYNTAX 25")
     values = "A: BEGIN; A: INSERT INTO T VALUES (" + ",".join("1" * (LONG // 2)) + ");"
     yield "values", values, taken("A: BEGIN 0\nA: REFUSED 5 - TYPE\nA: ROLLBACK AT END\n")
+    rows = "A: BEGIN; A: INSERT INTO T VALUES " + ",".join(["(1,NULL)"] * (LONG // 9)) + ";"
+    yield "rows", rows, taken("A: BEGIN 0\nA: REFUSED 7 23000 T 1\nA: ROLLBACK AT END\n")
     sessions = "".join(f"S{i}: BEGIN;" for i in range(LONG // 14))
     yield "session names", sessions, refused("SCRIPT", "24 - TOO MANY SESSIONS")
 

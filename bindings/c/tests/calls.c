@@ -231,6 +231,9 @@ static void statements(void)
     values[0] = skewguard_null();
     EXPECT(skewguard_run(&db, bob, ask, values, 1) == SKEWGUARD_BAD_VALUE && db.reply.number == 1);
 
+    EXPECT(execute(&db, bob, "INSERT INTO SHIFTS VALUES (7), (8)") == SKEWGUARD_REFUSED);
+    EXPECT(execute(&db, bob, "INSERT INTO DUTY (ID) VALUES (20), (21), (22)") == SKEWGUARD_DONE);
+    EXPECT(db.reply.kind == SKEWGUARD_INSERTED && db.reply.number == 3);
     EXPECT(execute(&db, bob, "SELECT ID, ONCALL FROM DUTY WHERE ID < 0") == SKEWGUARD_DONE && db.reply.columns == 2);
     EXPECT(is_text(skewguard_column(&db, 1), "ONCALL") && skewguard_next_row(&db, cells, 4) && is_number(cells[0], -4));
     EXPECT(skewguard_forget(&db, update) == SKEWGUARD_DONE && skewguard_forget(&db, update) == SKEWGUARD_NO_STATEMENT);

@@ -359,6 +359,7 @@ class Connections(unittest.TestCase):
         self.assertEqual(cursor.execute("DELETE FROM BOOZE WHERE NAME = 'XXXX'").rowcount, 0)
         self.assertEqual(cursor.execute("SET CONSTRAINTS ALL IMMEDIATE").rowcount, -1)
         self.assertEqual(cursor.executemany(INSERT, [["A"], ["B"]]).rowcount, 2)
+        self.assertEqual(cursor.execute("INSERT INTO BOOZE VALUES (?), ('D'), (?)", ["C", "E"]).rowcount, 3)
         with self.assertRaises(dbapi.Error):
             cursor.execute("SELEKT")
         self.assertEqual(cursor.rowcount, -1)

@@ -17,6 +17,7 @@ CREATE TABLE U (ID INTEGER PRIMARY KEY, A INTEGER, B INTEGER, C INTEGER);
 PLACES = (
     "INSERT INTO T VALUES (?, 7, ?, NULL, 'a?', NULL)",
     "insert into U (ID, A) values (?,?)",
+    "INSERT INTO U (ID, A, B) VALUES (-7, ?, 1), (?, NULL, ?), (-8, -2, ?)",
     "UPDATE T SET A = ?, B = B - ?, C = ? * 2 + ? WHERE ID = ?",
     "UPDATE T SET A = NULL, B = -(?) WHERE A IS NULL",
     "UPDATE T SET D = ?, E = (?) WHERE ID = 3",

@@ -90,6 +90,20 @@ fn faults_of_rows() {
 }
 
 #[test]
+fn several_rows_in_one_insert() {
+    let manager = opened();
+    let mut t = manager.begin().unwrap();
+    let text = "INSERT INTO DUTY VALUES (?, ?, 0), (4, ?, 0);";
+    let taken = fault_of(t.execute(text, &values![4, "LEE", "EVE"]));
+    assert_eq!(taken, Fault::DuplicateKey { table: "DUTY".into(), key: Value::Int(4) });
+    let twice = fault_of(t.execute(text, &values![3, "LEE", "LEE"]));
+    assert_eq!(twice, Fault::RuleViolated { rule: "ONCE".into(), root: Root::Of("LEE".into()) });
+    assert_eq!(t.execute(text, &values![3, "LEE", "EVE"]), Ok(Answer::Inserted(2)));
+    t.commit().unwrap();
+    assert_eq!(rows(&manager)[2..], [values![3, "LEE", 0], values![4, "EVE", 0]]);
+}
+
+#[test]
 fn a_dropped_transaction_is_rolled_back() {
     let manager = opened();
     let mut t = manager.begin().unwrap();

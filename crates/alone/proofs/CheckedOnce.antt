@@ -31,7 +31,7 @@ use Rattle.alone.specs.States.{row_in, IsState, same_there, is_real, change_betw
 use Rattle.alone.specs.Reads.{filter_key}
 use Rattle.alone.specs.Checks.{query_keys, keys_for, finding_keys, check_keys, violation, checks_read}
 use Rattle.alone.specs.Modes.{Immediates, is_immediate, is_named, mode_with, modes_with, assertion_of, initial_modes, immediate_ones, named_ones}
-use Rattle.alone.specs.Statements.{Effect, columns_of, place_in, found_rows, insert_effect, update_effect, delete_effect, sets_key}
+use Rattle.alone.specs.Statements.{Effect, columns_of, places_in, found_rows, insert_effect, update_effect, delete_effect, sets_key}
 use Rattle.alone.specs.declared.statements.ResolvedStatement.{ResolvedStatement}
 use Rattle.alone.specs.declared.statements.ResolvedStatement.TheVariants.{Refused as Refuse, Insert, Update, Delete, Select, SetModes, Verdict}
 use Rattle.alone.specs.declared.answers.Reply.{Reply}
@@ -409,17 +409,17 @@ module _ (declared : Declared) (s : State) (sound : IsSound declared s) where
     unless_known None reply before after reads fit each known does = does fit each
     unless_known (Some refusal) reply before after reads fit each known does = known
 
-    effect_known : (now : Standing) → IsState lays now.view → (read : LockKey) (effect : Result Effect Refusal) → IsState lays (step_of_effect declared now read effect).after.view
-        → EachKnown (step_of_effect declared now read effect).reads → AreKnown now → AreKnown (step_of_effect declared now read effect).after
-    effect_known now fit read (Err refusal) fit' each known = known
-    effect_known now fit read (Ok effect) fit' each known =
+    effect_known : (now : Standing) → IsState lays now.view → (own : List LockKey) (effect : Result Effect Refusal) → IsState lays (step_of_effect declared now own effect).after.view
+        → EachKnown (step_of_effect declared now own effect).reads → AreKnown now → AreKnown (step_of_effect declared now own effect).after
+    effect_known now fit own (Err refusal) fit' each known = known
+    effect_known now fit own (Ok effect) fit' each known =
         let w : State = state_after_all lays effect.changes now.view in
         let ones : List Assertion = immediate_ones now.modes all in
         let checks : List LockKey = checks_read lays w ones (net_change lays now.view w) in
-        unless_known (violation lays ones w) effect.reply now (record { view = w; modes = now.modes }) (read ∷ checks) fit' each known (λ fits reads a m key n.
+        unless_known (violation lays ones w) effect.reply now (record { view = w; modes = now.modes }) (own ++ checks) fit' each known (λ fits reads a m key n.
         elim (check_parted lays s now.view w sound.fit fit fits a.form key n) [
           | inl one ↦ known a m key one
-          | inr other ↦ reads key (in_tail read checks key (in_flat (λ (a : Assertion). check_keys lays w a.form (net_change lays now.view w)) ones a key m other))
+          | inr other ↦ reads key (in_right own checks key (in_flat (λ (a : Assertion). check_keys lays w a.form (net_change lays now.view w)) ones a key m other))
         ])
 
     modes_known : (names : List (List ℕ)) (immediate : Bool) (now : Standing) → IsState lays (modes_step declared s names immediate now).after.view → EachKnown (modes_step declared s names immediate now).reads
@@ -445,13 +445,13 @@ module _ (declared : Declared) (s : State) (sound : IsSound declared s) where
     step_known : (statement : ResolvedStatement) (now : Standing) → IsState lays now.view → IsState lays (step_alone declared s now statement).after.view → EachKnown (step_alone declared s now statement).reads
         → AreKnown now → AreKnown (step_alone declared s now statement).after
     step_known (Refuse refusal) now fit fit' each known = known
-    step_known (Insert new) now fit fit' each known = effect_known now fit (OneRow (place_in lays new)) (insert_effect declared.tables new now.view) fit' each known
+    step_known (Insert new) now fit fit' each known = effect_known now fit (map OneRow (places_in lays new)) (insert_effect declared.tables new now.view) fit' each known
     step_known (Update x) now fit fit' each known =
-        let read : LockKey = filter_key x.table (key_of x.table lays) x.filter in
+        let own : List LockKey = filter_key x.table (key_of x.table lays) x.filter ∷ [] in
         let effect : Result Effect Refusal = update_effect (columns_of x.table lays) x.table (key_of x.table lays) x.sets (found_rows now.view x.table x.filter) in
-        keyed_known (sets_key (key_of x.table lays) x.sets) (KeyUpdate (key_name lays x.table)) now (step_of_effect declared now read effect) fit' each known (λ fits reads. effect_known now fit read effect fits reads known)
+        keyed_known (sets_key (key_of x.table lays) x.sets) (KeyUpdate (key_name lays x.table)) now (step_of_effect declared now own effect) fit' each known (λ fits reads. effect_known now fit own effect fits reads known)
     step_known (Delete x) now fit fit' each known =
-        effect_known now fit (filter_key x.table (key_of x.table lays) x.filter) (Ok (delete_effect x.table (key_of x.table lays) (found_rows now.view x.table x.filter))) fit' each known
+        effect_known now fit (filter_key x.table (key_of x.table lays) x.filter ∷ []) (Ok (delete_effect x.table (key_of x.table lays) (found_rows now.view x.table x.filter))) fit' each known
     step_known (Select x) now fit fit' each known = known
     step_known (SetModes names mode) now fit fit' each known = modes_known names (is_immediate mode) now fit' each known
     step_known (Verdict name) now fit fit' each known = verdict_known (assertion_of name all) name now known

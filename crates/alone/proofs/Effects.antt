@@ -1,5 +1,4 @@
--- What a statement does to the rows: its changes are exact, may be put in, and are the same on states with the same rows under its
--- key.
+-- What a statement does to the rows: its changes are exact and may be put in; each row of an INSERT where those before it stand.
 use Rattle.std.proofs.Common.{◌≡◌, ◌<◌, ◌≤◌, ℕ, false, List, [], ◌∷◌, Option, Some, None, Ok, length, map, refl, sym, ap, ◌∙◌, subst, inl, inr, eq-eqb}
 use Rattle.std.specs.Prelude.{◌==◌, slice_set}
 use Rattle.std.specs.Ordering.{ordering_reverse}
@@ -12,17 +11,18 @@ use Rattle.value.specs.declared.refusals.Refusal.{Refusal}
 use Rattle.value.specs.ValueOrder.{value_cmp}
 use Rattle.value.specs.Ordered.{AreAbove, IsAscending, by_order}
 use Rattle.value.proofs.ValueOrders.{value_cmp_total}
+use Rattle.table.specs.declared.rows.Change.{Change}
 use Rattle.table.specs.Rows.{RowValues, Layout, value_in, row_at, key_of}
 use Rattle.table.specs.declared.conds.Cond.{Cond}
 use Rattle.table.specs.Eval.{keeps}
 use Rattle.assertion.specs.Meaning.{State, rows_of}
-use Rattle.assertion.specs.Changes.{state_after_all}
+use Rattle.assertion.specs.Changes.{state_after}
 use Rattle.assertcheck.specs.declared.updates.Setting.{Setting}
 use Rattle.value.specs.Results.{unless}
 use Rattle.siread.specs.declared.keys.Place.{Place}
 use Rattle.siread.specs.Keys.{place_of}
 use Rattle.alone.specs.States.{row_in, IsState, IsPut}
-use Rattle.alone.specs.declared.answers.Reply.TheVariants.{Inserted, Updated}
+use Rattle.alone.specs.declared.answers.Reply.TheVariants.{Updated}
 use Rattle.alone.specs.Statements.{Effect, inserted_at, removal, delete_effect, given_value, row_after_settings, renewal, sets_key, found_rows}
 use Rattle.alone.proofs.Lists.{Each, each_weaker, each_filter}
 use Rattle.alone.proofs.Nets.{IsExact}
@@ -88,26 +88,31 @@ module _ (layouts : List Layout) where
     puts = each_map (Stands state table) (IsPut layouts) (renewal table (key_of table layouts) sets) (λ r h. record { table_in = h.1; keyed = updated_key (key_of table layouts) sets r r leaves }) (found_rows state table restriction) (found_stand state fit table restriction);
   }
 
-  -- INSERT into a table that there is
+  -- a change is exact on a state, and may be put into it
+  pub record IsPutOn (change : Change) (state : State) : Type 0 where
+    pub exact : row_in layouts state (place_of change) ≡ change.old
+    pub puts : IsPut layouts change
+
+  -- a row of an INSERT, into a table that there is
   pub insert_doable : (state : State) (name : List ℕ) (place : Place) (row : RowValues) (fault : Option Refusal) → place.table < length layouts → value_in (key_of place.table layouts) row ≡ place.key
-      → (e : Effect) → unless fault (inserted_at name place row (row_in layouts state place)) ≡ Ok e → IsDoable e state
-  insert_doable state name place row (Some fault) there own e h = cc
-  insert_doable state name place row None there own e h = go (row_in layouts state place) refl h
+      → (c : Change) → unless fault (inserted_at name place row (row_in layouts state place)) ≡ Ok c → IsPutOn c state
+  insert_doable state name place row (Some fault) there own c h = cc
+  insert_doable state name place row None there own c h = go (row_in layouts state place) refl h
     where
-      go : (o : Option RowValues) → row_in layouts state place ≡ o → inserted_at name place row o ≡ Ok e → IsDoable e state
+      go : (o : Option RowValues) → row_in layouts state place ≡ o → inserted_at name place row o ≡ Ok c → IsPutOn c state
       go (Some other) n h = cc
       go None n h =
-          let is : record { reply = Inserted; changes = record { table = place.table; key = place.key; old = None; new = Some row } ∷ [] } ≡ e = cc in
-          subst (λ e. IsDoable e state) is (record { exact = (n, tt); puts = (record { table_in = there; keyed = own }, tt) })
+          let is : record { table = place.table; key = place.key; old = None; new = Some row } ≡ c = cc in
+          subst (λ c. IsPutOn c state) is (record { exact = n; puts = record { table_in = there; keyed = own } })
 
   -- and into one that there isn't, which leaves the state
   pub insert_nothing : (state : State) (name : List ℕ) (place : Place) (row : RowValues) (fault : Option Refusal) → length state ≤ place.table
-      → (e : Effect) → unless fault (inserted_at name place row (row_in layouts state place)) ≡ Ok e → state_after_all layouts e.changes state ≡ state
-  insert_nothing state name place row (Some fault) out e h = cc
-  insert_nothing state name place row None out e h = go (row_in layouts state place) h
+      → (c : Change) → unless fault (inserted_at name place row (row_in layouts state place)) ≡ Ok c → state_after layouts c state ≡ state
+  insert_nothing state name place row (Some fault) out c h = cc
+  insert_nothing state name place row None out c h = go (row_in layouts state place) h
     where
-      go : (o : Option RowValues) → inserted_at name place row o ≡ Ok e → state_after_all layouts e.changes state ≡ state
+      go : (o : Option RowValues) → inserted_at name place row o ≡ Ok c → state_after layouts c state ≡ state
       go (Some other) h = cc
       go None h =
-          let is : record { reply = Inserted; changes = record { table = place.table; key = place.key; old = None; new = Some row } ∷ [] } ≡ e = cc in
-          subst (λ (e : Effect). state_after_all layouts e.changes state ≡ state) is (set_out state place.table _ out)
+          let is : record { table = place.table; key = place.key; old = None; new = Some row } ≡ c = cc in
+          subst (λ (c : Change). state_after layouts c state ≡ state) is (set_out state place.table _ out)

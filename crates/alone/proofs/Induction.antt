@@ -6,40 +6,41 @@ use Rattle.std.proofs.lemmas.List.{length-map}
 use Rattle.value.specs.declared.refusals.Refusal.{Refusal}
 use Rattle.value.specs.declared.refusals.Refusal.TheVariants.{KeyUpdate}
 use Rattle.table.specs.declared.rows.Change.{Change}
-use Rattle.table.specs.Rows.{Layout, layouts_of, names_of, key_of}
+use Rattle.table.specs.Rows.{RowValues, Layout, layouts_of, names_of, key_of}
 use Rattle.table.specs.Faults.{row_refusal}
 use Rattle.table.specs.declared.conds.Cond.{Cond}
 use Rattle.assertion.specs.declared.assertions.Assertion.{Assertion}
 use Rattle.assertion.specs.Meaning.{State, least_bad_of}
-use Rattle.assertion.specs.Changes.{state_after_all}
-use Rattle.assertcheck.specs.declared.inserts.NewRow.{NewRow}
+use Rattle.assertion.specs.Changes.{state_after, state_after_all}
+use Rattle.assertcheck.specs.declared.inserts.NewRows.{NewRows}
 use Rattle.assertcheck.specs.declared.updates.Setting.{Setting}
-use Rattle.value.specs.Results.{unless}
+use Rattle.value.specs.Results.{and_then, unless}
+use Rattle.value.proofs.Results.{and_then_ok, ok_same}
 use Rattle.siread.specs.declared.keys.Place.{Place}
 use Rattle.siread.specs.declared.keys.LockKey.{LockKey}
 use Rattle.siread.specs.declared.keys.LockKey.TheVariants.{Row as OneRow, Table as WholeTable}
 use Rattle.siread.specs.Keys.{SameUnder, place_of}
-use Rattle.alone.specs.States.{row_in, IsState, net_change}
+use Rattle.alone.specs.States.{row_in, IsState, IsPut, net_change}
 use Rattle.alone.specs.Reads.{filter_key}
 use Rattle.alone.specs.Checks.{tables_in, violation, checks_read}
 use Rattle.alone.specs.declared.statements.ResolvedStatement.{ResolvedStatement}
 use Rattle.alone.specs.declared.statements.ResolvedStatement.TheVariants.{Refused as Refuse, Insert, Update, Delete, Select, SetModes, Verdict}
 use Rattle.alone.specs.declared.answers.Reply.{Reply}
-use Rattle.alone.specs.declared.answers.Reply.TheVariants.{Rows, ModesSet, Verdict as Truthful, Updated}
-use Rattle.alone.specs.Statements.{Effect, columns_of, place_in, found_rows, inserted_at, insert_effect, update_fault, renewal, update_effect, delete_effect, sets_key, selected_rows}
+use Rattle.alone.specs.declared.answers.Reply.TheVariants.{Rows, ModesSet, Verdict as Truthful, Inserted, Updated}
+use Rattle.alone.specs.Statements.{Effect, columns_of, place_in, places_in, found_rows, inserted_at, insertion, insertions, insert_effect, update_fault, renewal, update_effect, delete_effect, sets_key, selected_rows}
 use Rattle.assertion.specs.Declarations.{Declared, layouts_in}
 use Rattle.alone.specs.Modes.{Immediates, is_immediate, is_named, modes_with, assertion_of, initial_modes, immediate_ones, deferred_ones, named_ones}
 use Rattle.alone.specs.Alone.{Standing, Step, refused_step, unless_violated, step_of_effect, verdict_step, modes_step, unless_key, key_name, step_alone, Run, ran, run_on, transaction, transaction_keys, IsSound}
 use Rattle.siread.proofs.Members.{in_head, in_tail}
-use Rattle.alone.proofs.Lists.{each_filter}
+use Rattle.alone.proofs.Lists.{Each, each_filter}
 use Rattle.alone.proofs.Members.{in_map}
 use Rattle.alone.proofs.Stores.{one_same, all_fit}
-use Rattle.alone.proofs.Nets.{Alike, alike_start, alike_under, alike_put, net_same, net_exact, put_net}
+use Rattle.alone.proofs.Nets.{IsExact, Alike, alike_start, alike_under, alike_put, net_same, net_exact, put_net}
 use Rattle.alone.proofs.Forms.{verdict_same}
 use Rattle.alone.proofs.Wheres.{found_same}
 use Rattle.alone.proofs.Checks.{Under, under_left, under_right, AreQuiet, quiet_from, check_same, reads_same, AreQuietIn, quiet_of, quiet_ones, ones_quiet, quiet_in, quiet_deferred, quiet_immediate, quiet_deferred_ones, violation_deferred}
 use Rattle.alone.proofs.Immediates.{set_long}
-use Rattle.alone.proofs.Effects.{IsDoable, delete_doable, update_doable, insert_doable, insert_nothing}
+use Rattle.alone.proofs.Effects.{IsDoable, IsPutOn, delete_doable, update_doable, insert_doable, insert_nothing}
 
 reads_are : (fault : Option Refusal) (reply : Reply) (before after : Standing) (reads : List LockKey) → (unless_violated fault reply before after reads).reads ≡ reads
 reads_are None reply before after reads = refl
@@ -86,6 +87,97 @@ module _ (declared : Declared) (s o : State) (sound : IsSound declared s) (sound
     fit' : IsState lays (state_after_all lays changes v)
     alike : (one other : State) → Alike lays one other u v → Alike lays one other (state_after_all lays changes u) (state_after_all lays changes v)
 
+  -- changes that are exact on both states
+  exact_moves : (u v : State) → IsState lays u → IsState lays v → (changes : List Change) → Each (IsPut lays) changes → IsExact lays changes u → IsExact lays changes v → Moves u v changes
+  exact_moves u v fit fit' changes puts exact exact' = record {
+    fit = all_fit lays changes u fit puts;
+    fit' = all_fit lays changes v fit' puts;
+    alike = λ one other a. alike_put lays one other u v changes fit fit' puts a exact exact';
+  }
+
+  -- changes that leave both states as they are
+  still_moves : (u v : State) → IsState lays u → IsState lays v → (changes : List Change) → state_after_all lays changes u ≡ u → state_after_all lays changes v ≡ v → Moves u v changes
+  still_moves u v fit fit' changes e e' = record {
+    fit = subst (IsState lays) (sym e) fit;
+    fit' = subst (IsState lays) (sym e') fit';
+    alike = λ one other a. subst (λ x. Alike lays one other x (state_after_all lays changes v)) (sym e) (subst (λ y. Alike lays one other u y) (sym e') a);
+  }
+
+  -- a change, and then others on what it leaves
+  then_moves : (u v : State) (c : Change) (rest : List Change) → Moves u v (c ∷ []) → Moves (state_after lays c u) (state_after lays c v) rest → Moves u v (c ∷ rest)
+  then_moves u v c rest first more = record {
+    fit = more.fit;
+    fit' = more.fit';
+    alike = λ one other a. more.alike one other (first.alike one other a);
+  }
+
+  -- what is put into the two states is the same, and moves them
+  record ArePutAlike (u v : State) (made made' : Result (List Change) Refusal) : Type 0 where
+    same : made ≡ made'
+    moves : (changes : List Change) → made ≡ Ok changes → Moves u v changes
+
+  put_behind : (u v : State) (c : Change) (made made' : Result (List Change) Refusal) → Moves u v (c ∷ []) → ArePutAlike (state_after lays c u) (state_after lays c v) made made'
+      → ArePutAlike u v (and_then made (λ more. Ok (c ∷ more))) (and_then made' (λ more. Ok (c ∷ more)))
+  put_behind u v c made made' first rest =
+      let next : List Change → Result (List Change) Refusal = λ more. Ok (c ∷ more) in
+      record {
+        same = ap (λ made. and_then made next) rest.same;
+        moves = λ changes e.
+            let found = and_then_ok made next changes e in
+            subst (Moves u v) (ok_same (c ∷ found.0) changes found.1.1) (then_moves u v c found.0 first (rest.moves found.0 found.1.0));
+      }
+
+  -- a new row: at a table that there is its change is exact on both states, and at another it leaves them
+  insertion_moves : (table : ℕ) (row : RowValues) (u v : State) → IsState lays u → IsState lays v → (c : Change) → insertion declared.tables table u row ≡ Ok c → insertion declared.tables table v row ≡ Ok c → Moves u v (c ∷ [])
+  insertion_moves table row u v fit fit' c h h' =
+      let place : Place = place_in lays table row in
+      let fault : Option Refusal = row_refusal (columns_of table lays) row in
+      let name : List ℕ = slice_index_or (names_of declared.tables) table [] in
+      elim (cases_lt table (length lays)) [
+        | inl there ↦
+            let one : IsPutOn lays c u = insert_doable lays u name place row fault there refl c h in
+            let other : IsPutOn lays c v = insert_doable lays v name place row fault there refl c h' in
+            exact_moves u v fit fit' (c ∷ []) (one.puts, tt) (one.exact, tt) (other.exact, tt)
+        | inr out ↦ still_moves u v fit fit' (c ∷ [])
+            (insert_nothing lays u name place row fault (subst (λ n. n ≤ table) (sym fit.long) out) c h)
+            (insert_nothing lays v name place row fault (subst (λ n. n ≤ table) (sym fit'.long) out) c h')
+      ]
+
+  -- New rows, on states that stand alike: each is read at its key, so that the snapshots hold the same there. Then so do the states, and
+  -- what the row leaves stands alike again.
+  insertions_alike : (table : ℕ) (rows : List RowValues) (u v : State) → Alike lays s o u v → IsState lays u → IsState lays v → Under lays (map OneRow (map (place_in lays table) rows)) s o
+      → ArePutAlike u v (insertions declared.tables table u rows) (insertions declared.tables table v rows)
+  insertions_alike table [] u v alike fit fit' under = record {
+    same = refl;
+    moves = λ changes e. subst (Moves u v) (ok_same [] changes e) (still_moves u v fit fit' [] refl refl);
+  }
+  insertions_alike table (row ∷ rest) u v alike fit fit' under =
+      subst (λ made. ArePutAlike u v (and_then (insertion declared.tables table u row) (others u)) (and_then made (others v))) same
+      (go (insertion declared.tables table u row) refl (sym same) (λ c first.
+      insertions_alike table rest (state_after lays c u) (state_after lays c v) (first.alike s o alike) first.fit first.fit' (λ key m. under key (in_tail (OneRow place) keys key m))))
+    where
+      place : Place
+      place = place_in lays table row
+
+      keys : List LockKey
+      keys = map OneRow (map (place_in lays table) rest)
+
+      others : State → Change → Result (List Change) Refusal
+      others w c = and_then (insertions declared.tables table (state_after lays c w) rest) (λ more. Ok (c ∷ more))
+
+      same : insertion declared.tables table u row ≡ insertion declared.tables table v row
+      same =
+          ap (λ o. unless (row_refusal (columns_of table lays) row) (inserted_at (slice_index_or (names_of declared.tables) table []) place row o))
+          (one_same lays u v fit.ordered fit'.ordered place (alike_under lays s o u v alike (OneRow place) (under (OneRow place) (in_head (OneRow place) keys))))
+
+      go : (made : Result Change Refusal) → insertion declared.tables table u row ≡ made → insertion declared.tables table v row ≡ made
+          → ((c : Change) → Moves u v (c ∷ []) → ArePutAlike (state_after lays c u) (state_after lays c v) (insertions declared.tables table (state_after lays c u) rest) (insertions declared.tables table (state_after lays c v) rest))
+          → ArePutAlike u v (and_then made (others u)) (and_then made (others v))
+      go (Err refusal) h h' more = record { same = refl; moves = λ changes e. cc }
+      go (Ok c) h h' more =
+          let first : Moves u v (c ∷ []) = insertion_moves table row u v fit fit' c h h' in
+          put_behind u v c (insertions declared.tables table (state_after lays c u) rest) (insertions declared.tables table (state_after lays c v) rest) first (more c first)
+
   module _ (m : Immediates) (u v : State) (t : Together m u v) where
     abbrev at_u : Standing
     at_u = record { view = u; modes = m }
@@ -96,23 +188,26 @@ module _ (declared : Declared) (s o : State) (sound : IsSound declared s) (sound
     same_refusal : (refusal : Refusal) (reads : List LockKey) → AreSame (refused_step at_u refusal reads) (refused_step at_v refusal reads)
     same_refusal refusal reads = record { reply = refl; reads = refl; after = (refl, t) }
 
-    does_same : (read : LockKey) (effect : Effect) → Moves u v effect.changes
-        → Under lays (read ∷ checks_read lays (state_after_all lays effect.changes u) (immediate_ones m all) (net_change lays u (state_after_all lays effect.changes u))) s o
-        → AreSame (step_of_effect declared at_u read (Ok effect)) (step_of_effect declared at_v read (Ok effect))
-    does_same read effect moves under =
+    -- what the check of an effect reads
+    abbrev checks_of : Effect → List LockKey
+    checks_of effect = checks_read lays (state_after_all lays effect.changes u) (immediate_ones m all) (net_change lays u (state_after_all lays effect.changes u))
+
+    does_same : (reads : List LockKey) (effect : Effect) → Moves u v effect.changes → Under lays (reads ++ checks_of effect) s o
+        → AreSame (step_of_effect declared at_u reads (Ok effect)) (step_of_effect declared at_v reads (Ok effect))
+    does_same reads effect moves under =
         let u' : State = state_after_all lays effect.changes u in
         let v' : State = state_after_all lays effect.changes v in
         let moved : Alike lays s o u' v' = moves.alike s o t.alike in
         let stepwise : Alike lays u v u' v' = moves.alike u v (alike_start lays u v) in
         let net : net_change lays u u' ≡ net_change lays v v' = net_same lays u v u' v' stepwise in
         let checks : List LockKey = checks_read lays u' (immediate_ones m all) (net_change lays u u') in
-        let checked : Under lays checks u' v' = λ key c. alike_under lays s o u' v' moved key (under key (in_tail read checks key c)) in
+        let checked : Under lays checks u' v' = λ key c. alike_under lays s o u' v' moved key (under_right lays reads checks s o under key c) in
         let fault : violation lays (immediate_ones m all) u' ≡ violation lays (immediate_ones m all) v' =
         check_same lays (immediate_ones m all) u u' v v' t.fit moves.fit t.fit' moves.fit' stepwise (quiet_ones lays m u all t.quiet) (quiet_ones lays m v all t.quiet') checked
         in
         same_unless (violation lays (immediate_ones m all) u') (violation lays (immediate_ones m all) v') effect.reply at_u at_v (record { view = u'; modes = m }) (record { view = v'; modes = m })
-        (read ∷ checks) (read ∷ checks_read lays v' (immediate_ones m all) (net_change lays v v')) fault
-        (ap (λ reads. read ∷ reads) (reads_same lays (immediate_ones m all) (net_change lays u u') u' v' moves.fit moves.fit' checked ∙ ap (checks_read lays v' (immediate_ones m all)) net)) (refl, t)
+        (reads ++ checks) (reads ++ checks_read lays v' (immediate_ones m all) (net_change lays v v')) fault
+        (ap (λ checks. reads ++ checks) (reads_same lays (immediate_ones m all) (net_change lays u u') u' v' moves.fit moves.fit' checked ∙ ap (checks_read lays v' (immediate_ones m all)) net)) (refl, t)
         (λ none none'. (
           refl,
           record {
@@ -125,84 +220,75 @@ module _ (declared : Declared) (s o : State) (sound : IsSound declared s) (sound
           },
         ))
 
-    effect_same : (read : LockKey) (effect : Result Effect Refusal) → ((e : Effect) → effect ≡ Ok e → Moves u v e.changes) → Under lays (step_of_effect declared at_u read effect).reads s o
-        → AreSame (step_of_effect declared at_u read effect) (step_of_effect declared at_v read effect)
-    effect_same read (Err refusal) moves under = same_refusal refusal (read ∷ [])
-    effect_same read (Ok effect) moves under =
-        does_same read effect (moves effect refl)
-        (subst (λ keys. Under lays keys s o) (reads_are (violation lays (immediate_ones m all) (state_after_all lays effect.changes u)) effect.reply at_u (record { view = state_after_all lays effect.changes u; modes = m }) (read ∷ checks_read lays (state_after_all lays effect.changes u) (immediate_ones m all) (net_change lays u (state_after_all lays effect.changes u)))) under)
+    -- refused by its check or not, an effect has read both
+    both_under : (reads : List LockKey) (effect : Effect) → Under lays (step_of_effect declared at_u reads (Ok effect)).reads s o → Under lays (reads ++ checks_of effect) s o
+    both_under reads effect under =
+        let u' : State = state_after_all lays effect.changes u in
+        subst (λ keys. Under lays keys s o) (reads_are (violation lays (immediate_ones m all) u') effect.reply at_u (record { view = u'; modes = m }) (reads ++ checks_of effect)) under
 
-    has_read : (read : LockKey) (effect : Result Effect Refusal) → Contains (step_of_effect declared at_u read effect).reads read
-    has_read read (Err refusal) = in_head read []
-    has_read read (Ok effect) =
-        let checks : List LockKey = checks_read lays (state_after_all lays effect.changes u) (immediate_ones m all) (net_change lays u (state_after_all lays effect.changes u)) in
-        subst (λ keys. Contains keys read) (sym (reads_are (violation lays (immediate_ones m all) (state_after_all lays effect.changes u)) effect.reply at_u (record { view = state_after_all lays effect.changes u; modes = m }) (read ∷ checks)))
-        (in_head read checks)
+    own_under : (reads : List LockKey) (effect : Result Effect Refusal) → Under lays (step_of_effect declared at_u reads effect).reads s o → Under lays reads s o
+    own_under reads (Err refusal) under = under
+    own_under reads (Ok effect) under = under_left lays reads (checks_of effect) s o (both_under reads effect under)
 
-    -- the effects on the two states, which are the same where the read key has the same rows
-    effects_same : (read : LockKey) (effect effect' : Result Effect Refusal) → (SameUnder (row_in lays) read u v → effect ≡ effect')
-        → ((e : Effect) → effect ≡ Ok e → effect' ≡ Ok e → Moves u v e.changes)
-        → Under lays (step_of_effect declared at_u read effect).reads s o
-        → AreSame (step_of_effect declared at_u read effect) (step_of_effect declared at_v read effect')
-    effects_same read effect effect' same moves under =
-        let e : effect ≡ effect' = same (alike_under lays s o u v t.alike read (under read (has_read read effect))) in
-        subst (λ x. AreSame (step_of_effect declared at_u read effect) (step_of_effect declared at_v read x)) e
-        (effect_same read effect (λ f h. moves f h (sym e ∙ h)) under)
+    -- where one key is read, the two states hold the same under it
+    one_under : (read : LockKey) (effect : Result Effect Refusal) → Under lays (step_of_effect declared at_u (read ∷ []) effect).reads s o → SameUnder (row_in lays) read u v
+    one_under read effect under = alike_under lays s o u v t.alike read (own_under (read ∷ []) effect under read (in_head read []))
+
+    effect_same : (reads : List LockKey) (effect : Result Effect Refusal) → ((e : Effect) → effect ≡ Ok e → Moves u v e.changes) → Under lays (step_of_effect declared at_u reads effect).reads s o
+        → AreSame (step_of_effect declared at_u reads effect) (step_of_effect declared at_v reads effect)
+    effect_same reads (Err refusal) moves under = same_refusal refusal reads
+    effect_same reads (Ok effect) moves under = does_same reads effect (moves effect refl) (both_under reads effect under)
+
+    -- the effects on the two states, where they are the same
+    effects_same : (reads : List LockKey) (effect effect' : Result Effect Refusal) → effect ≡ effect' → ((e : Effect) → effect ≡ Ok e → effect' ≡ Ok e → Moves u v e.changes)
+        → Under lays (step_of_effect declared at_u reads effect).reads s o
+        → AreSame (step_of_effect declared at_u reads effect) (step_of_effect declared at_v reads effect')
+    effects_same reads effect effect' same moves under =
+        subst (λ x. AreSame (step_of_effect declared at_u reads effect) (step_of_effect declared at_v reads x)) same
+        (effect_same reads effect (λ e h. moves e h (sym same ∙ h)) under)
 
     doable_moves : (e : Effect) → IsDoable lays e u → IsDoable lays e v → Moves u v e.changes
-    doable_moves e d d' = record {
-      fit = all_fit lays e.changes u t.fit d.puts;
-      fit' = all_fit lays e.changes v t.fit' d.puts;
-      alike = λ one other a. alike_put lays one other u v e.changes t.fit t.fit' d.puts a d.exact d'.exact;
-    }
+    doable_moves e d d' = exact_moves u v t.fit t.fit' e.changes d.puts d.exact d'.exact
 
-    still_moves : (changes : List Change) → state_after_all lays changes u ≡ u → state_after_all lays changes v ≡ v → Moves u v changes
-    still_moves changes e e' = record {
-      fit = subst (IsState lays) (sym e) t.fit;
-      fit' = subst (IsState lays) (sym e') t.fit';
-      alike = λ one other a. subst (λ x. Alike lays one other x (state_after_all lays changes v)) (sym e) (subst (λ y. Alike lays one other u y) (sym e') a);
-    }
-
-    insert_same : (new : NewRow) → Under lays (step_alone declared s at_u (Insert new)).reads s o → AreSame (step_alone declared s at_u (Insert new)) (step_alone declared o at_v (Insert new))
+    insert_same : (new : NewRows) → Under lays (step_alone declared s at_u (Insert new)).reads s o → AreSame (step_alone declared s at_u (Insert new)) (step_alone declared o at_v (Insert new))
     insert_same new under =
-        let place : Place = place_in lays new in
-        let fault : Option Refusal = row_refusal (columns_of new.table lays) new.row in
-        let name : List ℕ = slice_index_or (names_of declared.tables) new.table [] in
-        effects_same (OneRow place) (insert_effect declared.tables new u) (insert_effect declared.tables new v)
-        (λ h. ap (λ o. unless fault (inserted_at name place new.row o)) (one_same lays u v t.fit.ordered t.fit'.ordered place h))
-        (λ e h h'. elim (cases_lt new.table (length lays)) [
-          | inl there ↦ doable_moves e (insert_doable lays u name place new.row fault there refl e h) (insert_doable lays v name place new.row fault there refl e h')
-          | inr out ↦ still_moves e.changes
-              (insert_nothing lays u name place new.row fault (subst (λ n. n ≤ new.table) (sym t.fit.long) out) e h)
-              (insert_nothing lays v name place new.row fault (subst (λ n. n ≤ new.table) (sym t.fit'.long) out) e h')
-        ]) under
+        let reads : List LockKey = map OneRow (places_in lays new) in
+        let made : State → Result (List Change) Refusal = λ w. insertions declared.tables new.table w new.rows in
+        let done : List Change → Effect = λ changes. record { reply = Inserted (length new.rows); changes = changes } in
+        let next : List Change → Result Effect Refusal = λ changes. Ok (done changes) in
+        let put : ArePutAlike u v (made u) (made v) = insertions_alike new.table new.rows u v t.alike t.fit t.fit' (own_under reads (insert_effect declared.tables new u) under) in
+        effects_same reads (insert_effect declared.tables new u) (insert_effect declared.tables new v) (ap (λ changes. and_then changes next) put.same)
+        (λ e h h'.
+        let found = and_then_ok (made u) next e h in
+        subst (λ (e : Effect). Moves u v e.changes) (ok_same (done found.0) e found.1.1) (put.moves found.0 found.1.0))
+        under
 
     is_ok : (fault : Option Refusal) (e f : Effect) → unless fault (Ok e) ≡ Ok f → e ≡ f
     is_ok None e f h = cc
     is_ok (Some fault) e f h = cc
 
     update_same : (table : ℕ) (sets : List Setting) (restriction : Cond) → sets_key (key_of table lays) sets ≡ false
-        → Under lays (step_of_effect declared at_u (filter_key table (key_of table lays) restriction) (update_effect (columns_of table lays) table (key_of table lays) sets (found_rows u table restriction))).reads s o
-        → AreSame (step_of_effect declared at_u (filter_key table (key_of table lays) restriction) (update_effect (columns_of table lays) table (key_of table lays) sets (found_rows u table restriction)))
-        (step_of_effect declared at_v (filter_key table (key_of table lays) restriction) (update_effect (columns_of table lays) table (key_of table lays) sets (found_rows v table restriction)))
+        → Under lays (step_of_effect declared at_u (filter_key table (key_of table lays) restriction ∷ []) (update_effect (columns_of table lays) table (key_of table lays) sets (found_rows u table restriction))).reads s o
+        → AreSame (step_of_effect declared at_u (filter_key table (key_of table lays) restriction ∷ []) (update_effect (columns_of table lays) table (key_of table lays) sets (found_rows u table restriction)))
+        (step_of_effect declared at_v (filter_key table (key_of table lays) restriction ∷ []) (update_effect (columns_of table lays) table (key_of table lays) sets (found_rows v table restriction)))
     update_same table sets restriction leaves under =
         let does : State → Effect = λ w. record { reply = Updated (length (found_rows w table restriction)); changes = map (renewal table (key_of table lays) sets) (found_rows w table restriction) } in
-        effects_same (filter_key table (key_of table lays) restriction)
-        (update_effect (columns_of table lays) table (key_of table lays) sets (found_rows u table restriction)) (update_effect (columns_of table lays) table (key_of table lays) sets (found_rows v table restriction))
-        (λ h. ap (update_effect (columns_of table lays) table (key_of table lays) sets) (found_same lays u v t.fit.ordered t.fit'.ordered table restriction h))
+        let effect : State → Result Effect Refusal = λ w. update_effect (columns_of table lays) table (key_of table lays) sets (found_rows w table restriction) in
+        effects_same (filter_key table (key_of table lays) restriction ∷ []) (effect u) (effect v)
+        (ap (update_effect (columns_of table lays) table (key_of table lays) sets) (found_same lays u v t.fit.ordered t.fit'.ordered table restriction (one_under (filter_key table (key_of table lays) restriction) (effect u) under)))
         (λ e h h'. doable_moves e
         (subst (λ e. IsDoable lays e u) (is_ok (update_fault (columns_of table lays) sets (found_rows u table restriction)) (does u) e h) (update_doable lays u t.fit table sets restriction leaves))
         (subst (λ e. IsDoable lays e v) (is_ok (update_fault (columns_of table lays) sets (found_rows v table restriction)) (does v) e h') (update_doable lays v t.fit' table sets restriction leaves)))
         under
 
     delete_same : (table : ℕ) (restriction : Cond)
-        → Under lays (step_of_effect declared at_u (filter_key table (key_of table lays) restriction) (Ok (delete_effect table (key_of table lays) (found_rows u table restriction)))).reads s o
-        → AreSame (step_of_effect declared at_u (filter_key table (key_of table lays) restriction) (Ok (delete_effect table (key_of table lays) (found_rows u table restriction))))
-        (step_of_effect declared at_v (filter_key table (key_of table lays) restriction) (Ok (delete_effect table (key_of table lays) (found_rows v table restriction))))
+        → Under lays (step_of_effect declared at_u (filter_key table (key_of table lays) restriction ∷ []) (Ok (delete_effect table (key_of table lays) (found_rows u table restriction)))).reads s o
+        → AreSame (step_of_effect declared at_u (filter_key table (key_of table lays) restriction ∷ []) (Ok (delete_effect table (key_of table lays) (found_rows u table restriction))))
+        (step_of_effect declared at_v (filter_key table (key_of table lays) restriction ∷ []) (Ok (delete_effect table (key_of table lays) (found_rows v table restriction))))
     delete_same table restriction under =
         let does : State → Effect = λ w. delete_effect table (key_of table lays) (found_rows w table restriction) in
-        effects_same (filter_key table (key_of table lays) restriction) (Ok (does u)) (Ok (does v))
-        (λ h. ap (λ rows. Ok (delete_effect table (key_of table lays) rows)) (found_same lays u v t.fit.ordered t.fit'.ordered table restriction h))
+        effects_same (filter_key table (key_of table lays) restriction ∷ []) (Ok (does u)) (Ok (does v))
+        (ap (λ rows. Ok (delete_effect table (key_of table lays) rows)) (found_same lays u v t.fit.ordered t.fit'.ordered table restriction (one_under (filter_key table (key_of table lays) restriction) (Ok (does u)) under)))
         (λ e h h'. doable_moves e
         (subst (λ e. IsDoable lays e u) (is_ok None (does u) e h) (delete_doable lays u t.fit table restriction))
         (subst (λ e. IsDoable lays e v) (is_ok None (does v) e h') (delete_doable lays v t.fit' table restriction)))
@@ -267,7 +353,7 @@ module _ (declared : Declared) (s o : State) (sound : IsSound declared s) (sound
     statement_same (Update x) under = go (sets_key (key_of x.table lays) x.sets) refl under
       where
         step : Standing → Step
-        step now = step_of_effect declared now (filter_key x.table (key_of x.table lays) x.filter) (update_effect (columns_of x.table lays) x.table (key_of x.table lays) x.sets (found_rows now.view x.table x.filter))
+        step now = step_of_effect declared now (filter_key x.table (key_of x.table lays) x.filter ∷ []) (update_effect (columns_of x.table lays) x.table (key_of x.table lays) x.sets (found_rows now.view x.table x.filter))
 
         fault : Refusal
         fault = KeyUpdate (key_name lays x.table)

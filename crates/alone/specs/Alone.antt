@@ -18,7 +18,7 @@ use Rattle.alone.specs.declared.statements.ResolvedStatement.{ResolvedStatement}
 use Rattle.alone.specs.declared.statements.ResolvedStatement.TheVariants.{Refused as Refuse, Insert, Update, Delete, Select, SetModes, Verdict}
 use Rattle.alone.specs.declared.answers.Reply.{Reply}
 use Rattle.alone.specs.declared.answers.Reply.TheVariants.{Rows, ModesSet, Verdict as Truthful}
-use Rattle.alone.specs.Statements.{Effect, columns_of, no_column, place_in, found_rows, insert_effect, update_effect, delete_effect, sets_key, selected_rows}
+use Rattle.alone.specs.Statements.{Effect, columns_of, no_column, places_in, found_rows, insert_effect, update_effect, delete_effect, sets_key, selected_rows}
 
 -- a transaction between two statements
 pub record Standing : Type 0 where
@@ -41,13 +41,13 @@ unless_violated None reply before after reads = record { reply = Ok reply; after
 unless_violated (Some refusal) reply before after reads = refused_step before refusal reads
 
 -- an effect on the rows, put in, and then the check of the immediate assertions over the rows that changed
-abbrev pub step_of_effect : Declared → Standing → LockKey → Result Effect Refusal → Step
-step_of_effect declared now read (Err refusal) = refused_step now refusal (read ∷ [])
-step_of_effect declared now read (Ok effect) =
+abbrev pub step_of_effect : Declared → Standing → List LockKey → Result Effect Refusal → Step
+step_of_effect declared now reads (Err refusal) = refused_step now refusal reads
+step_of_effect declared now reads (Ok effect) =
     unless_violated (violation (layouts_in declared) (immediate_ones now.modes declared.assertions)
     (state_after_all (layouts_in declared) effect.changes now.view)) effect.reply
     now (record { view = state_after_all (layouts_in declared) effect.changes now.view; modes = now.modes })
-    (read ∷ checks_read (layouts_in declared) (state_after_all (layouts_in declared) effect.changes now.view)
+    (reads ++ checks_read (layouts_in declared) (state_after_all (layouts_in declared) effect.changes now.view)
     (immediate_ones now.modes declared.assertions)
     (net_change (layouts_in declared) now.view (state_after_all (layouts_in declared) effect.changes now.view)))
 
@@ -86,16 +86,16 @@ key_name layouts table = (slice_index_or (columns_of table layouts) (key_of tabl
 abbrev pub step_alone : Declared → State → Standing → ResolvedStatement → Step
 step_alone declared start now (Refuse refusal) = refused_step now refusal []
 step_alone declared start now (Insert new) =
-    step_of_effect declared now (OneRow (place_in (layouts_in declared) new))
+    step_of_effect declared now (map OneRow (places_in (layouts_in declared) new))
     (insert_effect declared.tables new now.view)
 step_alone declared start now (Update u) =
     unless_key (sets_key (key_of u.table (layouts_in declared)) u.sets)
     (KeyUpdate (key_name (layouts_in declared) u.table)) now
-    (step_of_effect declared now (filter_key u.table (key_of u.table (layouts_in declared)) u.filter)
+    (step_of_effect declared now (filter_key u.table (key_of u.table (layouts_in declared)) u.filter ∷ [])
     (update_effect (columns_of u.table (layouts_in declared)) u.table (key_of u.table (layouts_in declared)) u.sets
     (found_rows now.view u.table u.filter)))
 step_alone declared start now (Delete d) =
-    step_of_effect declared now (filter_key d.table (key_of d.table (layouts_in declared)) d.filter)
+    step_of_effect declared now (filter_key d.table (key_of d.table (layouts_in declared)) d.filter ∷ [])
     (Ok (delete_effect d.table (key_of d.table (layouts_in declared)) (found_rows now.view d.table d.filter)))
 step_alone declared start now (Select s) = record {
   reply = Ok (Rows (selected_rows s.columns (found_rows now.view s.table s.filter)));

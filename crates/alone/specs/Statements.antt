@@ -15,13 +15,14 @@ use Rattle.table.specs.declared.exprs.Expr.{Expr}
 use Rattle.table.specs.declared.conds.Cond.{Cond}
 use Rattle.table.specs.Eval.{answer}
 use Rattle.assertion.specs.Meaning.{State, rows_of, filtered_rows}
-use Rattle.assertcheck.specs.declared.inserts.NewRow.{NewRow}
+use Rattle.assertcheck.specs.declared.inserts.NewRows.{NewRows}
 use Rattle.assertcheck.specs.declared.updates.Setting.{Setting}
 use Rattle.alone.specs.declared.answers.Reply.{Reply}
 use Rattle.alone.specs.declared.answers.Reply.TheVariants.{Inserted, Updated, Deleted}
-use Rattle.value.specs.Results.{unless}
+use Rattle.value.specs.Results.{and_then, unless}
 use Rattle.siread.specs.declared.keys.Place.{Place}
 use Rattle.alone.specs.States.{row_in}
+use Rattle.assertion.specs.Changes.{state_after}
 
 -- what a statement does to the rows
 pub record Effect : Type 0 where
@@ -32,24 +33,40 @@ pub record Effect : Type 0 where
 abbrev pub columns_of : ℕ → List Layout → List Column
 columns_of table layouts = (slice_index_or layouts table (record { columns = []; key = 0 })).columns
 
--- the place at which a new row is to stand
-abbrev pub place_in : List Layout → NewRow → Place
-place_in layouts new = record { table = new.table; key = value_in (key_of new.table layouts) new.row }
+-- the place at which a new row of a table is to stand
+abbrev pub place_in : List Layout → ℕ → RowValues → Place
+place_in layouts table row = record { table = table; key = value_in (key_of table layouts) row }
+
+-- the places at which the rows of an INSERT are to stand
+abbrev pub places_in : List Layout → NewRows → List Place
+places_in layouts new = map (place_in layouts new.table) new.rows
 
 -- the row comes to stand at its key, if none stands there
-abbrev pub inserted_at : List ℕ → Place → RowValues → Option RowValues → Result Effect Refusal
-inserted_at name place row None = Ok (record {
-  reply = Inserted;
-  changes = record { table = place.table; key = place.key; old = None; new = Some row } ∷ [];
-})
+abbrev pub inserted_at : List ℕ → Place → RowValues → Option RowValues → Result Change Refusal
+inserted_at name place row None =
+    Ok (record { table = place.table; key = place.key; old = None; new = Some row })
 inserted_at name place row (Some other) = Err (DuplicateKey name place.key)
 
--- INSERT: types, NULLs and ranges by columns, and then the key
-abbrev pub insert_effect : Tables → NewRow → State → Result Effect Refusal
+-- a new row of a table: types, NULLs and ranges by columns, and then the key
+abbrev pub insertion : Tables → ℕ → State → RowValues → Result Change Refusal
+insertion tables table state row =
+    unless (row_refusal (columns_of table (layouts_of tables)) row)
+    (inserted_at (slice_index_or (names_of tables) table []) (place_in (layouts_of tables) table row) row
+    (row_in (layouts_of tables) state (place_in (layouts_of tables) table row)))
+
+-- new rows of a table, each put in where those before it stand
+abbrev pub insertions : Tables → ℕ → State → List RowValues → Result (List Change) Refusal
+insertions tables table state [] = Ok []
+insertions tables table state (row ∷ rest) =
+    and_then (insertion tables table state row) (λ change.
+    and_then (insertions tables table (state_after (layouts_of tables) change state) rest) (λ more.
+    Ok (change ∷ more)))
+
+-- INSERT: all of its rows, or none
+abbrev pub insert_effect : Tables → NewRows → State → Result Effect Refusal
 insert_effect tables new state =
-    unless (row_refusal (columns_of new.table (layouts_of tables)) new.row)
-    (inserted_at (slice_index_or (names_of tables) new.table []) (place_in (layouts_of tables) new) new.row
-    (row_in (layouts_of tables) state (place_in (layouts_of tables) new)))
+    and_then (insertions tables new.table state new.rows) (λ changes.
+    Ok (record { reply = Inserted (length new.rows); changes = changes }))
 
 -- the change that takes a row of a table out
 abbrev pub removal : (table key : ℕ) → RowValues → Change

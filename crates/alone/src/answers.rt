@@ -7,8 +7,8 @@ use value::{Refusal, Text, Truth};
 /// What a statement did.
 #[derive(Debug, Drop)]
 pub enum Reply {
-    /// INSERT: the row was put in.
-    Inserted,
+    /// INSERT: so many rows were put in.
+    Inserted(u64),
     /// UPDATE: its condition kept so many rows. One that is set to what it held is counted too.
     Updated(u64),
     /// DELETE: so many rows were taken out.

@@ -1,6 +1,6 @@
 //! Statements with their names found.
 
-use assertcheck::{Delete, NewRow, Select, Update};
+use assertcheck::{Delete, NewRows, Select, Update};
 use sqlite_items::Items;
 use syntax::Mode;
 use value::{Refusal, Text};
@@ -11,7 +11,7 @@ use value::{Refusal, Text};
 #[derive(Debug, Drop)]
 pub enum ResolvedStatement {
     Refused(Refusal),
-    Insert(NewRow),
+    Insert(NewRows),
     Update(Update),
     Delete(Delete),
     Select(Select),

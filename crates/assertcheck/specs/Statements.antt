@@ -15,7 +15,7 @@ use Rattle.syntax.specs.declared.statements.Which.TheVariants.{All, Names}
 use Rattle.value.specs.Results.{and_then, each, result_of_name, if_holds}
 use Rattle.form_check.specs.Queries.{Source}
 use Rattle.assertcheck.specs.declared.deletes.Delete.{Delete}
-use Rattle.assertcheck.specs.declared.inserts.NewRow.{NewRow}
+use Rattle.assertcheck.specs.declared.inserts.NewRows.{NewRows}
 use Rattle.assertcheck.specs.declared.selects.Select.{Select}
 use Rattle.assertcheck.specs.Conditions.{target_of, filter_of}
 
@@ -74,19 +74,25 @@ row_from place (column ∷ columns) places values =
 abbrev pub row_of : List Column → List ℕ → List Value → RowValues
 row_of columns places values = row_from 0 columns places values
 
--- the row of an INSERT, if it gives as many values as it lists columns, each of its column's type
-abbrev pub typed_row : Source → List ℕ → List Value → Result NewRow Refusal
-typed_row target places values =
+-- a row of an INSERT, if it gives as many values as there are columns listed, each of its column's type
+abbrev pub typed_row : List Column → List ℕ → List Value → Result RowValues Refusal
+typed_row columns places values =
     if_holds (length values == length places) TypeMismatch (
-    if_holds (are_typed target.scope.layout.columns (row_of target.scope.layout.columns places values)) TypeMismatch (
-    Ok (record { table = target.table; row = row_of target.scope.layout.columns places values })))
+    if_holds (are_typed columns (row_of columns places values)) TypeMismatch (
+    Ok (row_of columns places values)))
 
--- INSERT: the table, the listed columns, how many values there are, and their types
-abbrev pub insert_of : Tables → Insert → Result NewRow Refusal
+-- all rows of an INSERT into a table
+abbrev pub typed_rows : Source → List ℕ → List (List Value) → Result NewRows Refusal
+typed_rows target places rows =
+    and_then (each (typed_row target.scope.layout.columns places) rows) (λ typed.
+    Ok (record { table = target.table; rows = typed }))
+
+-- INSERT: the table, the listed columns, and of each row how many values there are, and their types
+abbrev pub insert_of : Tables → Insert → Result NewRows Refusal
 insert_of tables insert =
     and_then (target_of tables insert.table) (λ target.
     and_then (listed_places target.scope.layout.columns insert.columns) (λ places.
-    typed_row target places insert.values))
+    typed_rows target places insert.rows))
 
 -- the columns that a SELECT lists, from the left, each as often as it is listed; * is all of them in the table's order
 abbrev pub selected_places : List Column → Which → Result (List ℕ) Refusal

@@ -2,34 +2,36 @@
 
 ghost use Rattle.std.specs.Prelude.{◌≡◌, ◌≢◌, ◌<◌, ◌==◌, length, IfOk, IfErr, Ok, Err, position};
 ghost use Rattle.value.specs.declared.refusals.Refusal.TheVariants.{NoMemory};
-ghost use Rattle.form_check.specs.ShownSources.{shown_source};
+ghost use Rattle.value.specs.Results.{each};
 ghost use Rattle.assertcheck.specs.Statements.{given_to, insert_of, row_of, typed_row};
 
 use crate::columns::{all_places, places_of};
 use crate::conditions::target;
-use form_check::Source;
+use sqlite_items::Items;
 use std::alloc::{AllocError, Global};
 use syntax::Insert;
-use table::{Catalog, Column, Row};
+use table::{Catalog, Column, Row, Schema};
 use value::{Refusal, Text, Value};
 
-/// An INSERT with its names found: a row of constants of the columns' types, NULL where a column isn't listed. Whether
+/// An INSERT with its names found: rows of constants of the columns' types, NULL where a column isn't listed. Whether
 /// NULL may stand there, whether it is in range and whether its key is free is not tested yet.
 #[derive(Debug, Drop)]
-pub struct NewRow {
+pub struct NewRows {
     /// The table's place in the catalog.
     pub table: usize,
-    pub row: Row,
+    /// In the order of the text, one at least.
+    pub rows: Items<Row>,
 }
 
-/// `INSERT INTO table (columns) VALUES (constants)`.
+/// `INSERT INTO table (columns) VALUES (constants), ..`.
 ///
 /// # Errors
 ///
 /// The first fault: [`Refusal::UnknownName`] of the table; of the listed columns from the left
 /// [`Refusal::UnknownName`], and [`Refusal::NameTaken`] where one stands twice; and [`Refusal::TypeMismatch`] where
-/// there are more or fewer constants than columns, or one is not of its column's type. Or [`Refusal::NoMemory`].
-pub fn check_insert(alloc: Global, catalog: &Catalog, insert: &Insert) -> Result<NewRow, Refusal>
+/// a row has more or fewer constants than there are columns, or one is not of its column's type. Or
+/// [`Refusal::NoMemory`].
+pub fn check_insert(alloc: Global, catalog: &Catalog, insert: &Insert) -> Result<NewRows, Refusal>
     ensures made { IfOk result (λ new. insert_of catalog.now insert.now ≡ Ok new) }
     ensures refused { IfErr result (λ refusal. refusal ≢ NoMemory → insert_of catalog.now insert.now ≡ Err refusal) }
     ensures within { IfOk result (λ new. new.table < length catalog.now) }
@@ -40,32 +42,51 @@ pub fn check_insert(alloc: Global, catalog: &Catalog, insert: &Insert) -> Result
         Some(names) => places_of(alloc, schema, names.as_slice())?,
         None => all_places(alloc, schema.columns())?,
     };
-    typed_row(alloc, target, places.as_slice(), insert.values.as_slice())
+    let rows = typed_rows(alloc, schema, places.as_slice(), insert.rows.as_slice())?;
+    Ok(NewRows {
+        table: target.table,
+        rows: Items::from_vec(rows),
+    })
+}
+
+/// All rows, if each has a constant of its type for each listed column.
+#[tactic(auto, using(value::proofs::Results::behind_next, value::proofs::Results::behind_none))]
+fn typed_rows(
+    alloc: Global,
+    schema: &Schema,
+    places: &[usize],
+    rows: &[Items<Value>],
+) -> Result<Vec<Row>, Refusal>
+    ensures made { IfOk result (λ typed. each (typed_row schema.now.columns places.now) rows.now ≡ Ok typed.items) }
+    ensures refused { IfErr result (λ refusal.
+        refusal ≢ NoMemory → each (typed_row schema.now.columns places.now) rows.now ≡ Err refusal) }
+{
+    let mut typed = Vec::with_capacity(alloc, rows.len())?;
+    for values in rows {
+        typed.push(typed_row(alloc, schema, places, values.as_slice())?)?;
+    }
+    Ok(typed)
 }
 
 /// The whole row, if there is a constant of its type for each listed column.
 fn typed_row(
     alloc: Global,
-    target: Source,
+    schema: &Schema,
     places: &[usize],
     values: &[Value],
-) -> Result<NewRow, Refusal>
-    ensures made { IfOk result (λ new. typed_row (shown_source target.entry) places.now values.now ≡ Ok new) }
+) -> Result<Row, Refusal>
+    ensures made { IfOk result (λ row. typed_row schema.now.columns places.now values.now ≡ Ok row) }
     ensures refused { IfErr result (λ refusal.
-        refusal ≢ NoMemory → typed_row (shown_source target.entry) places.now values.now ≡ Err refusal) }
-    ensures place { IfOk result (λ new. new.table ≡ target.entry.table) }
+        refusal ≢ NoMemory → typed_row schema.now.columns places.now values.now ≡ Err refusal) }
 {
     if values.len() != places.len() {
         return Err(Refusal::TypeMismatch);
     }
-    let row = row_of(alloc, target.scope.schema.columns(), places, values)?;
-    if !target.scope.schema.is_typed(&row) {
+    let row = row_of(alloc, schema.columns(), places, values)?;
+    if !schema.is_typed(&row) {
         return Err(Refusal::TypeMismatch);
     }
-    Ok(NewRow {
-        table: target.table,
-        row,
-    })
+    Ok(row)
 }
 
 /// The row of what is given to each column.

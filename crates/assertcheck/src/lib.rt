@@ -72,7 +72,7 @@ pub use assertions::check;
 pub use bounded_forms::form_is_bounded;
 pub use data_types::{DataType, aggregate_type, are_comparable, column_type};
 pub use deletes::{Delete, check_delete};
-pub use inserts::{NewRow, check_insert};
+pub use inserts::{NewRows, check_insert};
 pub use selects::{Select, check_select};
 pub use typed_forms::form_is_typed;
 pub use typed_trees::{expression_type, is_well_typed};

@@ -1,11 +1,10 @@
 //! Rows that are put in.
 
-ghost use Rattle.std.specs.Prelude.{◌≡◌, ◌≢◌, [], ◌∷◌, IfOk, IfErr, Ok, Err};
+ghost use Rattle.std.specs.Prelude.{◌≡◌, ◌≢◌, IfOk, IfErr, Ok, Err};
 ghost use Rattle.value.specs.Ordered.{HasKey, HoldsOf};
 ghost use Rattle.value.specs.ValueOrder.{value_cmp};
 ghost use Rattle.value.specs.declared.refusals.Refusal.TheVariants.{NoMemory};
 ghost use Rattle.table.specs.Rows.{FitsColumns, row_at, value_in};
-ghost use Rattle.alone.specs.declared.answers.Reply.TheVariants.{Inserted};
 ghost use Rattle.changes.specs.Insertions.{insertion_of};
 
 use mvrows::Rows;
@@ -27,8 +26,7 @@ pub fn insertion(
     rows: &Rows,
     row: Row,
 ) -> Result<Change, Refusal>
-    ensures made { IfOk result (λ change. insertion_of name.now table schema.now rows.now row
-        ≡ Ok (record { reply = Inserted; changes = change ∷ [] })) }
+    ensures made { IfOk result (λ change. insertion_of name.now table schema.now rows.now row ≡ Ok change) }
     ensures refused { IfErr result (λ refusal. refusal ≢ NoMemory
         → insertion_of name.now table schema.now rows.now row ≡ Err refusal) }
     ensures place { IfOk result (λ change. change.table ≡ table) }

@@ -1,4 +1,5 @@
 pub mod GoodTables
+mod InsertedRows
 pub mod Kept
 pub mod OneMore
 pub mod Redeclaring

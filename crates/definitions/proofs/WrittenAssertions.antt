@@ -22,7 +22,7 @@ use Rattle.assertion.specs.Changes.{state_after_all}
 use Rattle.assertcheck.specs.Assertions.{checked_assertion}
 use Rattle.assertcheck.specs.Conditions.{target_of}
 use Rattle.assertcheck.specs.Statements.{insert_of}
-use Rattle.alone.specs.Statements.{insert_effect}
+use Rattle.alone.specs.Statements.{insertions}
 use Rattle.meaning.specs.Laws.{Pairs}
 use Rattle.meaning.proofs.Checked.{StaysWritten-law}
 use Rattle.meaning.proofs.Grown.{layout_grown}
@@ -130,8 +130,8 @@ same_declared writes now next after is adds = subst (λ (d : Declared). Adds wri
 row_first : (writes : Tables → List WrittenAssertion) (insert : Insert) (now next : ViewState) (after : Declared) → tables_after_insert now insert ≡ Ok next → Adds writes next.declared after → Adds writes now.declared after
 row_first writes insert now next after e adds =
     let new = and_then_ok (insert_of now.declared.tables insert) _ next e in
-    let effect = and_then_ok (insert_effect now.declared.tables new.0 now.state) _ next new.1.1 in
-    let is : record now { state = state_after_all (layouts_in now.declared) effect.0.changes now.state } ≡ next = ok_same _ next effect.1.1 in
+    let changes = and_then_ok (insertions now.declared.tables new.0.table now.state new.0.rows) _ next new.1.1 in
+    let is : record now { state = state_after_all (layouts_in now.declared) changes.0 now.state } ≡ next = ok_same _ next changes.1.1 in
     same_declared writes now next after (ap (λ (s : ViewState). s.declared) (sym is)) adds
 
 -- an index more, which changes nothing

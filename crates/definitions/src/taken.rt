@@ -1,20 +1,19 @@
 //! Definitions are taken in one after the other.
 
-ghost use Rattle.std.specs.Prelude.{◌≡◌, ◌≢◌, ◌<◌, [], ◌∷◌, IfOk, IfErr, OnOk, Ok, Err, length};
+ghost use Rattle.std.specs.Prelude.{◌≡◌, ◌≢◌, ◌<◌, [], IfOk, IfErr, OnOk, Ok, Err, length};
 ghost use Rattle.value.specs.declared.refusals.Refusal.TheVariants.{NoMemory};
 ghost use Rattle.definitions.specs.Taken.{is_asserted, empty_database, view_of_definitions, with_assertion, with_constrained_table, with_constraint, with_constraints, with_definition, with_index, with_table};
 ghost use Rattle.definitions.specs.Written.{AreWritten};
 ghost use Rattle.assertion.specs.Declarations.{layouts_in};
 ghost use Rattle.assertion.specs.Changes.{IsChangeOf, state_after};
-ghost use Rattle.alone.specs.declared.answers.Reply.TheVariants.{Inserted};
-ghost use Rattle.alone.specs.Statements.{insert_effect};
-ghost use Rattle.changes.specs.Insertions.{tables_after_insert};
+ghost use Rattle.alone.specs.Statements.{insertion};
+ghost use Rattle.changes.specs.Insertions.{tables_after_insert, tables_with_rows};
 ghost use Rattle.delta.specs.Views.{IsFitting};
 
 use crate::constraints::{UniqueColumns, constraint_name, foreign_key_condition, unique_condition};
 use crate::tables::schema_of;
 use crate::takings::Taking;
-use assertcheck::{NewRow, check, check_insert};
+use assertcheck::{NewRows, check, check_insert};
 use assertion::Assertion;
 use changes::insertion;
 use delta::{View, copy_assertions, copy_catalog, put_change};
@@ -98,7 +97,7 @@ impl Definitions {
                 condition,
                 attributes,
             } => self.with_assertion(alloc, name, condition, *attributes),
-            Definition::Insert(insert) => self.with_row(alloc, insert),
+            Definition::Insert(insert) => self.with_inserted(alloc, insert),
             Definition::Index { table, column, .. } => self.with_index(table, column),
         }
     }
@@ -294,14 +293,29 @@ impl Definitions {
     }
 
     /// INSERT: no assertion is looked at.
-    fn with_row(self, alloc: Global, insert: &Insert) -> Result<Definitions, Refusal>
+    fn with_inserted(self, alloc: Global, insert: &Insert) -> Result<Definitions, Refusal>
         ensures taken { IfOk result (λ made. tables_after_insert self insert.now ≡ Ok made) }
         ensures refused { IfErr result (λ refusal.
             refusal ≢ NoMemory → tables_after_insert self insert.now ≡ Err refusal) }
     {
-        let NewRow { table, row } = check_insert(alloc, &self.catalog, insert)?;
-        let change = self.insertion(table, row)?;
-        Ok(self.with_change(&change)?)
+        let NewRows { table, rows } = check_insert(alloc, &self.catalog, insert)?;
+        self.with_rows(table, rows.as_slice())
+    }
+
+    /// These with new rows of a table, each among those before it.
+    #[tactic(auto, using(crate::proofs::InsertedRows::row_fault, crate::proofs::InsertedRows::rows_next))]
+    fn with_rows(self, table: usize, rows: &[Row]) -> Result<Definitions, Refusal>
+        requires { table < length self.declared.tables }
+        ensures made { IfOk result (λ made. tables_with_rows table rows.now self ≡ Ok made) }
+        ensures refused { IfErr result (λ refusal.
+            refusal ≢ NoMemory → tables_with_rows table rows.now self ≡ Err refusal) }
+    {
+        let mut made = self;
+        for row in rows {
+            let change = made.insertion(table, row.copy()?)?;
+            made = made.with_change(&change)?;
+        }
+        Ok(made)
     }
 
     /// CREATE INDEX: its table has such a column. What is defined stays as it is; from here on the rows that have a
@@ -351,12 +365,9 @@ impl Definitions {
     /// The change that puts a row into the table at a place.
     fn insertion(&self, table: usize, row: Row) -> Result<Change, Refusal>
         requires { table < length self.now.declared.tables }
-        ensures made { IfOk result (λ change. insert_effect self.now.declared.tables
-            (record { table = table; row = row }) self.now.state
-            ≡ Ok (record { reply = Inserted; changes = change ∷ [] })) }
+        ensures made { IfOk result (λ change. insertion self.now.declared.tables table self.now.state row ≡ Ok change) }
         ensures refused { IfErr result (λ refusal. refusal ≢ NoMemory
-            → insert_effect self.now.declared.tables (record { table = table; row = row }) self.now.state
-            ≡ Err refusal) }
+            → insertion self.now.declared.tables table self.now.state row ≡ Err refusal) }
         ensures is { IfOk result (λ change. IsChangeOf (layouts_in self.now.declared) change self.now.state) }
         ensures fits { IfOk result (IsFitting (layouts_in self.now.declared)) }
     {

@@ -3,9 +3,9 @@
 use crate::conditions::{Site, diagnose_condition, diagnose_whole};
 use crate::constraints::{WrittenConstraint, constraint_named};
 use crate::contexts::{Context, Viewpoint};
-use crate::inserts::diagnose_insert;
+use crate::inserts::{WrittenInsert, diagnose_insert};
 use crate::names::{diagnose_column_name, diagnose_table_name};
-use crate::refused::first_refused;
+use crate::refused::{first_refused, put_taken_key};
 use crate::rules::FORMS;
 use crate::tables::{Earlier, diagnose_table};
 use delta::View;
@@ -13,7 +13,7 @@ use faults::{At, Diagnosis, Piece, Span, place_of};
 use form_check::Scope;
 use std::alloc::{AllocError, Global};
 use std::slice;
-use syntax::{Condition, Definition};
+use syntax::{Condition, Definition, Insert};
 use table::Row;
 use token::Kind;
 use value::{Refusal, Root, Text};
@@ -67,13 +67,17 @@ fn diagnose_refused(
         catalog: before.catalog(),
         refusal,
     };
+    let definitions = &text.definitions[..place.min(text.definitions.len())];
     match text.definitions.get(place) {
         Some(Definition::Table(table)) => {
             let earlier = Earlier {
-                definitions: &text.definitions[..place.min(text.definitions.len())],
+                definitions,
                 view: before,
             };
             diagnose_table(alloc, context, table, earlier, diagnosis)?;
+        }
+        Some(Definition::Insert(insert)) => {
+            diagnose_rows(alloc, context, insert, definitions, diagnosis)?;
         }
         Some(definition) => diagnose_definition(alloc, context, definition, diagnosis)?,
         None => return diagnose_whole(context, diagnosis),
@@ -84,6 +88,22 @@ fn diagnose_refused(
         }
         _ => Ok(()),
     }
+}
+
+/// Says what is wrong with an INSERT before which these definitions stand.
+fn diagnose_rows(
+    alloc: Global,
+    context: Context,
+    insert: &Insert,
+    earlier: &[Definition],
+    diagnosis: &mut Diagnosis,
+) -> Result<(), AllocError> {
+    let written = WrittenInsert {
+        insert,
+        names: 0,
+        was_taken: put_taken_key(alloc, context.catalog, earlier, context.refusal)?,
+    };
+    diagnose_insert(alloc, context, written, diagnosis)
 }
 
 /// A line that a table of this name is created further down, if one is.
@@ -117,7 +137,7 @@ fn created_below(definitions: &[Definition], place: usize, name: &Text) -> Optio
     None
 }
 
-/// Says what is wrong with a definition that is no CREATE TABLE.
+/// Says what is wrong with a definition of an assertion or an index.
 fn diagnose_definition(
     alloc: Global,
     context: Context,
@@ -125,13 +145,12 @@ fn diagnose_definition(
     diagnosis: &mut Diagnosis,
 ) -> Result<(), AllocError> {
     match definition {
-        Definition::Table(_) => diagnose_whole(context, diagnosis),
+        Definition::Table(_) | Definition::Insert(_) => diagnose_whole(context, diagnosis),
         Definition::Assertion {
             name,
             condition,
             ..
         } => diagnose_assertion(alloc, context, name, condition, diagnosis),
-        Definition::Insert(insert) => diagnose_insert(alloc, context, insert, 0, diagnosis),
         Definition::Index {
             name,
             table,

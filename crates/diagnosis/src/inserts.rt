@@ -7,12 +7,14 @@ use crate::names::{diagnose_column_name, diagnose_table_name};
 use assertcheck::{DataType, check_insert};
 use faults::{At, Diagnosis, push_names};
 use form_check::Scope;
+use sqlite_items::Items;
 use std::alloc::{AllocError, Global};
+use std::collections::BTreeSet;
 use syntax::Insert;
-use table::{Catalog, Column, Schema};
+use table::{Catalog, Column, Row, Schema};
 use value::{ColType, Excess, Refusal, Text, Value};
 
-/// The refusal that an INSERT gets whatever the rows are.
+/// The refusal that an INSERT gets into a table without rows, if it is one. Then it is refused whatever the rows are.
 pub fn insert_refusal(
     alloc: Global,
     catalog: &Catalog,
@@ -22,19 +24,57 @@ pub fn insert_refusal(
         check_insert(alloc, catalog, insert),
         catalog.get(&insert.table),
     ) {
-        (Ok(new), Some(schema)) => refusal_in(schema.admits(&new.row)),
+        (Ok(new), Some(schema)) => rows_refusal(alloc, &insert.table, schema, new.rows.as_slice()),
         (answer, _) => refusal_in(answer),
     }
 }
 
-/// Says what is wrong with an INSERT. `names` is how many names stand before that of its table.
+/// The first fault of rows that are put into a table without rows, one after the other.
+fn rows_refusal(
+    alloc: Global,
+    table: &Text,
+    schema: &Schema,
+    rows: &[Row],
+) -> Result<Option<Refusal>, AllocError> {
+    let mut keys = BTreeSet::new(alloc);
+    for row in rows {
+        if let Some(refusal) = refusal_in(schema.admits(row))? {
+            return Ok(Some(refusal));
+        }
+        if let Some(key) = row.values().get(schema.key()) {
+            if !keys.insert(key.copy()?)? {
+                return Ok(Some(Refusal::DuplicateKey {
+                    table: table.copy()?,
+                    key: key.copy()?,
+                }));
+            }
+        }
+    }
+    Ok(None)
+}
+
+/// An INSERT, and what it is to know of what stands before it.
+#[derive(Clone, Copy)]
+pub struct WrittenInsert<'a> {
+    pub insert: &'a Insert,
+    /// How many names stand before that of its table, in the text of the definition or line.
+    pub names: usize,
+    /// Whether a key that is taken was so before it. Else two of its own rows have that key.
+    pub was_taken: bool,
+}
+
+/// Says what is wrong with an INSERT.
 pub fn diagnose_insert(
     alloc: Global,
     context: Context,
-    insert: &Insert,
-    names: usize,
+    written: WrittenInsert,
     diagnosis: &mut Diagnosis,
 ) -> Result<(), AllocError> {
+    let WrittenInsert {
+        insert,
+        names,
+        was_taken,
+    } = written;
     let Some(schema) = context.catalog.get(&insert.table) else {
         // (the place among the leaves is that among the names: no other leaf stands before it)
         return diagnose_table_name(alloc, context, &insert.table, names, diagnosis);
@@ -44,6 +84,7 @@ pub fn diagnose_insert(
         insert,
         schema,
         names,
+        was_taken,
     };
     known.diagnose(alloc, diagnosis)
 }
@@ -55,6 +96,7 @@ struct KnownInsert<'a> {
     insert: &'a Insert,
     schema: &'a Schema,
     names: usize,
+    was_taken: bool,
 }
 
 impl<'a> KnownInsert<'a> {
@@ -127,23 +169,27 @@ impl<'a> KnownInsert<'a> {
             Some(columns) => columns.len(),
             None => self.schema.columns().len(),
         };
-        if self.insert.values.len() != wanted {
-            return self.count_fault(alloc, wanted, diagnosis);
+        for (row, values) in self.insert.rows.as_slice().iter().enumerate() {
+            if values.len() != wanted {
+                let given = values.len();
+                return self.count_fault(alloc, Miscount { row, given, wanted }, diagnosis);
+            }
+            if let Some(mistyped) = self.first_mistyped(row, values.as_slice()) {
+                return self.type_fault(mistyped, diagnosis);
+            }
         }
-        match self.first_mistyped() {
-            Some(value) => self.type_fault(value, diagnosis),
-            None => diagnose_whole(self.context, diagnosis),
-        }
+        diagnose_whole(self.context, diagnosis)
     }
 
-    /// The first value of another type than its column.
-    fn first_mistyped(&self) -> Option<Mistyped<'a>> {
-        for (place, value) in self.insert.values.as_slice().iter().enumerate() {
+    /// The first value of a row that is of another type than its column.
+    fn first_mistyped(&self, row: usize, values: &'a [Value]) -> Option<Mistyped<'a>> {
+        for (place, value) in values.iter().enumerate() {
             if let Some(column) = self.column_at(place) {
                 if !column.is_typed(value) {
                     return Some(Mistyped {
                         column,
                         value,
+                        row,
                         place,
                     });
                 }
@@ -166,12 +212,12 @@ impl<'a> KnownInsert<'a> {
     fn count_fault(
         &self,
         alloc: Global,
-        wanted: usize,
+        miscount: Miscount,
         diagnosis: &mut Diagnosis,
     ) -> Result<(), AllocError> {
-        let given = self.insert.values.len();
+        let Miscount { row, given, wanted } = miscount;
         let place = wanted.min(given.saturating_sub(1));
-        diagnosis.place(5, self.context.at(self.context.piece.value(place)));
+        diagnosis.place(5, self.context.at(self.context.piece.value(row, place)));
         push_counts(given, wanted, &mut diagnosis.what)?;
         match &self.insert.columns {
             Some(_) => diagnosis.advise("Give one value for each column that is listed."),
@@ -183,6 +229,7 @@ impl<'a> KnownInsert<'a> {
         let Mistyped {
             column,
             value,
+            row,
             place,
         } = mistyped;
         let name = &column.name;
@@ -191,7 +238,7 @@ impl<'a> KnownInsert<'a> {
             Value::Text(_) => "VARCHAR",
             Value::Null | Value::Int(_) => "INTEGER",
         };
-        diagnosis.place(5, self.context.at(self.context.piece.value(place)));
+        diagnosis.place(5, self.context.at(self.context.piece.value(row, place)));
         push_value_of_type(given, declared, &mut diagnosis.what)?;
         writeln!(
             diagnosis.advice,
@@ -208,10 +255,41 @@ impl<'a> KnownInsert<'a> {
         }
     }
 
-    /// Where the value for a column stands, or else the table's name.
-    fn value_at(&self, name: &Text) -> At {
+    /// The value that a row has for a column, if that is listed.
+    fn value_for(&self, row: &'a Items<Value>, name: &Text) -> Option<&'a Value> {
+        row.as_slice().get(self.place_of(name)?)
+    }
+
+    /// The place of the first row whose value for a column may not stand there.
+    fn row_refused(&self, name: &Text) -> Result<usize, AllocError> {
+        for (place, row) in self.insert.rows.as_slice().iter().enumerate() {
+            if let (Some(column), Some(value)) = (self.column(name), self.value_for(row, name)) {
+                if column.fault(value)?.is_some() {
+                    return Ok(place);
+                }
+            }
+        }
+        Ok(0)
+    }
+
+    /// The place of the row whose key is taken: the first under this key, or the second where none was there before.
+    fn row_repeated(&self, column: &Text, key: &Value) -> usize {
+        let mut was_taken = self.was_taken;
+        for (place, row) in self.insert.rows.as_slice().iter().enumerate() {
+            if self.value_for(row, column) == Some(key) {
+                if was_taken {
+                    return place;
+                }
+                was_taken = true;
+            }
+        }
+        0
+    }
+
+    /// Where the value of a row for a column stands, or else the table's name.
+    fn value_at(&self, row: usize, name: &Text) -> At {
         let span = match self.place_of(name) {
-            Some(place) => self.context.piece.value(place),
+            Some(place) => self.context.piece.value(row, place),
             None => self.context.piece.leaf(self.names),
         };
         self.context.at(span)
@@ -223,7 +301,7 @@ impl<'a> KnownInsert<'a> {
         } else {
             "is NOT NULL"
         };
-        diagnosis.place(6, self.value_at(column));
+        diagnosis.place(6, self.value_at(self.row_refused(column)?, column));
         write!(diagnosis.what, "{column} takes no NULL")?;
         match self.place_of(column) {
             Some(_) => writeln!(diagnosis.advice, "{column} {why}: give it a value."),
@@ -240,8 +318,9 @@ impl<'a> KnownInsert<'a> {
         excess: Excess,
         diagnosis: &mut Diagnosis,
     ) -> Result<(), AllocError> {
-        diagnosis.place(9, self.value_at(column));
-        match (excess, self.kind_of(column)) {
+        diagnosis.place(9, self.value_at(self.row_refused(column)?, column));
+        let kind = self.column(column).map(|declared| declared.kind);
+        match (excess, kind) {
             (Excess::Text, Some(ColType::Varchar(most))) => {
                 write!(diagnosis.what, "this text is too long for {column}")?;
                 writeln!(
@@ -260,32 +339,44 @@ impl<'a> KnownInsert<'a> {
         }
     }
 
-    /// The type that a column was declared with.
-    fn kind_of(&self, name: &Text) -> Option<ColType> {
-        let column = self.schema.columns().get(self.schema.column(name)?)?;
-        Some(column.kind)
+    /// The column of this name.
+    fn column(&self, name: &Text) -> Option<&'a Column> {
+        self.schema.columns().get(self.schema.column(name)?)
     }
 
     fn duplicate(&self, key: &Value, diagnosis: &mut Diagnosis) -> Result<(), AllocError> {
         let table = &self.insert.table;
         let place = match self.schema.columns().get(self.schema.key()) {
-            Some(column) => self.value_at(&column.name),
+            Some(Column { name, .. }) => self.value_at(self.row_repeated(name, key), name),
             None => self.context.at(None),
         };
         diagnosis.place(7, place);
-        write!(
-            diagnosis.what,
-            "{table} has a row under the key {key} already"
-        )?;
+        if self.was_taken {
+            write!(
+                diagnosis.what,
+                "{table} has a row under the key {key} already"
+            )?;
+        } else {
+            write!(diagnosis.what, "two rows of this INSERT have the key {key}")?;
+        }
         diagnosis.advise("Each row has a key of its own: give this one another, or leave it out.")
     }
 }
 
-/// A value of another type than its column, and its place among the values.
+/// A row that has more or fewer values than there are columns for them.
+#[derive(Clone, Copy)]
+struct Miscount {
+    row: usize,
+    given: usize,
+    wanted: usize,
+}
+
+/// A value of another type than its column, with the place of its row, and its own in that.
 #[derive(Clone, Copy)]
 struct Mistyped<'a> {
     column: &'a Column,
     value: &'a Value,
+    row: usize,
     place: usize,
 }
 

@@ -1,8 +1,8 @@
 //! Which of the definitions is the first that is refused.
 //!
 //! What is taken in is not kept up to the fault, so it is asked for again. A schema has few tables and assertions and
-//! may have a great many rows, and those mostly stand last: the rows behind the last table and assertion are gone
-//! through once, and only what stands before is taken in time and again.
+//! may have a great many rows, and those mostly stand last: the rows behind the last table and assertion are looked at
+//! one by one, and only what stands before is taken in time and again.
 
 use crate::answers::{answer_of, refusal_in};
 use crate::inserts::insert_refusal;
@@ -10,8 +10,8 @@ use assertcheck::check_insert;
 use definitions::Definitions;
 use delta::View;
 use std::alloc::{AllocError, Global};
-use syntax::{Definition, Insert};
-use table::Catalog;
+use syntax::Definition;
+use table::{Catalog, Row, Schema};
 use value::{Refusal, Text, Value};
 
 /// The place of the first definition that is refused, and what those before it define: all tables and assertions, if
@@ -119,7 +119,7 @@ fn first_bad_row(
     Ok(definitions.len())
 }
 
-/// The place of the second INSERT that puts a row under this key of this table.
+/// The place of the INSERT that puts the second row under this key of this table.
 fn second_row(
     alloc: Global,
     catalog: &Catalog,
@@ -127,36 +127,60 @@ fn second_row(
     table: &Text,
     key: &Value,
 ) -> Result<usize, AllocError> {
-    let mut is_there = false;
+    let mut rows = 0usize;
     for (place, definition) in definitions.iter().enumerate() {
-        if let Definition::Insert(insert) = definition {
-            if puts(alloc, catalog, insert, table, key)? {
-                if is_there {
-                    return Ok(place);
-                }
-                is_there = true;
-            }
+        rows = rows.saturating_add(rows_under(alloc, catalog, definition, table, key)?);
+        if rows > 1 {
+            return Ok(place);
         }
     }
     Ok(definitions.len())
 }
 
-/// Whether an INSERT puts a row under this key of this table.
-fn puts(
+/// Whether definitions put a row under the key that is refused as taken.
+pub fn put_taken_key(
     alloc: Global,
     catalog: &Catalog,
-    insert: &Insert,
+    definitions: &[Definition],
+    refusal: &Refusal,
+) -> Result<bool, AllocError> {
+    if let Refusal::DuplicateKey { table, key } = refusal {
+        for definition in definitions {
+            if rows_under(alloc, catalog, definition, table, key)? > 0 {
+                return Ok(true);
+            }
+        }
+    }
+    Ok(false)
+}
+
+/// How many rows a definition puts under this key of this table.
+fn rows_under(
+    alloc: Global,
+    catalog: &Catalog,
+    definition: &Definition,
     table: &Text,
     key: &Value,
-) -> Result<bool, AllocError> {
+) -> Result<usize, AllocError> {
+    let (Definition::Insert(insert), Some(schema)) = (definition, catalog.get(table)) else {
+        return Ok(0);
+    };
     if insert.table != *table {
-        return Ok(false);
+        return Ok(0);
     }
-    match (
-        answer_of(check_insert(alloc, catalog, insert))?,
-        catalog.get(table),
-    ) {
-        (Some(new), Some(schema)) => Ok(new.row.values().get(schema.key()) == Some(key)),
-        _ => Ok(false),
+    match answer_of(check_insert(alloc, catalog, insert))? {
+        Some(new) => Ok(count_under(new.rows.as_slice(), schema, key)),
+        None => Ok(0),
     }
+}
+
+/// How many of some rows of a table have this key.
+fn count_under(rows: &[Row], schema: &Schema, key: &Value) -> usize {
+    let mut count = 0usize;
+    for row in rows {
+        if row.values().get(schema.key()) == Some(key) {
+            count = count.saturating_add(1);
+        }
+    }
+    count
 }

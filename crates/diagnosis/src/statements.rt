@@ -7,7 +7,7 @@ use crate::conditions::{
     type_name,
 };
 use crate::contexts::{Context, Viewpoint};
-use crate::inserts::{diagnose_insert, insert_refusal, push_value_of_type};
+use crate::inserts::{WrittenInsert, diagnose_insert, insert_refusal, push_value_of_type};
 use crate::leaves::{Range, of_expression};
 use crate::names::{MOST_NAMES, diagnose_column_name, diagnose_table_name, diagnose_unknown};
 use crate::parts::parts_of_expression;
@@ -140,7 +140,13 @@ fn diagnose_parts(
 ) -> Result<bool, AllocError> {
     match statement {
         Statement::Insert(insert) => {
-            diagnose_insert(alloc, context, insert, 1, diagnosis)?;
+            // (whatever the rows are, a key is refused only where two rows of the statement have it)
+            let written = WrittenInsert {
+                insert,
+                names: 1,
+                was_taken: false,
+            };
+            diagnose_insert(alloc, context, written, diagnosis)?;
             Ok(true)
         }
         Statement::Update { table, sets, keeps } => {

@@ -9,6 +9,7 @@ use history::{Transaction, add_row};
 use printout::Printout;
 use std::alloc::{AllocError, Global};
 use std::fmt::Display;
+use table::Row;
 use value::{Excess, Refusal, Text, Value};
 
 /// Adds why an event was refused: for an assertion its figures, for a commit in the way what both changed, for a
@@ -39,10 +40,7 @@ pub fn add_refusal(
         (Refusal::WriteConflict { table: _, key, by }, _, Some(this)) => {
             add_write_conflict(story, this, key, *by, out)
         }
-        (Refusal::DuplicateKey { table, key }, Some(view), _) => {
-            add_sentence(refusal, out);
-            add_row_under(view, table, key, out);
-        }
+        (Refusal::DuplicateKey { table, key }, Some(view), _) => add_taken(view, table, key, out),
         (Refusal::TransactionOpen, _, _) => add_open(moment, out),
         (Refusal::ReadOnlyTransaction, _, Some(this)) => add_read_only(this, out),
         _ => add_sentence(refusal, out),
@@ -77,16 +75,23 @@ fn add_read_only(this: &Transaction, out: &mut Printout) {
     out.add(". To write, end it, and begin one by BEGIN alone.\n");
 }
 
-/// Adds the row that stands under a key.
-fn add_row_under(view: &View, table: &Text, key: &Value, out: &mut Printout) {
-    let Some(table) = view.catalog().position(table) else {
-        return;
-    };
-    if let Some(row) = view.row(table, key) {
-        out.add("    ");
-        add_row(row, out);
-        out.add("\n");
+/// Adds by what a key is taken: the row that stands under it, or else another row of the INSERT.
+fn add_taken(view: &View, table: &Text, key: &Value, out: &mut Printout) {
+    match row_under(view, table, key) {
+        Some(row) => {
+            add_around("  ", table, " has a row under the key ", out);
+            add_around("", key, " already:\n    ", out);
+            add_row(row, out);
+            out.add("\n");
+        }
+        None => add_around("  Two rows of the INSERT have the key ", key, ".\n", out),
     }
+}
+
+/// The row that stands under a key.
+fn row_under<'a>(view: &'a View, table: &Text, key: &Value) -> Option<&'a Row> {
+    let table = view.catalog().position(table)?;
+    view.row(table, key)
 }
 
 /// Adds a fault in a sentence.
@@ -126,10 +131,6 @@ fn add_value_sentence(refusal: &Refusal, out: &mut Printout) {
         }
         Refusal::NullNotAllowed { column } => {
             add_around("  The column ", column, " takes no NULL.\n", out)
-        }
-        Refusal::DuplicateKey { table, key } => {
-            add_around("  ", table, " has a row under the key ", out);
-            add_around("", key, " already:\n", out);
         }
         Refusal::KeyUpdate { column } => add_around(
             "  ",

@@ -400,10 +400,6 @@ fn is_of_sessions(kind: Kind) -> bool {
 /// Of what stands behind a comma, or of the comma itself.
 fn by_list(stop: &Stop) -> Option<&'static str> {
     match (stop.token.kind, stop.last()) {
-        (Kind::Comma, Kind::Close)
-            if stop.first() == Kind::Insert || stop.has_before(Kind::Values) => {
-            Some("An INSERT puts one row in: write one INSERT for each row.")
-        }
         (Kind::Comma, _) if is_behind(Kind::By, stop.before) => Some("GROUP BY takes one column."),
         (Kind::Comma, _) if is_behind(Kind::From, stop.before) => Some(
             "A query has one table. Link another one: EXISTS (SELECT * FROM D WHERE D.COLUMN = R.KEY).",

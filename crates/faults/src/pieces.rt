@@ -78,14 +78,21 @@ impl<'a> Piece<'a> {
         None
     }
 
-    /// The value at a place of the list in parentheses behind VALUES, its sign with it.
-    pub fn value(&self, place: usize) -> Option<Span> {
+    /// The value at a place of a row behind VALUES, its sign with it.
+    pub fn value(&self, row: usize, place: usize) -> Option<Span> {
+        let mut parts = self.row(row)?.split(|token| token.kind == Kind::Comma);
+        span_of(parts.nth(place)?)
+    }
+
+    /// The tokens in the parentheses of a row behind VALUES.
+    fn row(&self, row: usize) -> Option<&[Token]> {
         let mut tokens = self.tokens.iter();
         let values = tokens.position(|token| token.kind == Kind::Values)?;
-        // (the parenthesis stands behind it)
-        let list = self.tokens.get(values.saturating_add(2)..)?;
-        let mut parts = list.split(|token| token.kind == Kind::Comma || token.kind == Kind::Close);
-        span_of(parts.nth(place)?)
+        let list = self.tokens.get(values.saturating_add(1)..)?;
+        let within = list.split(|token| token.kind == Kind::Close).nth(row)?;
+        // (before the parenthesis of each row but the first stands a comma)
+        let open = within.iter().position(|token| token.kind == Kind::Open)?;
+        within.get(open.saturating_add(1)..)
     }
 
     /// The bytes of a span.

@@ -10,9 +10,9 @@
 //! - a transaction alone is a `txn::Txn`, begun on the same tables and given the same statements, and at COMMIT a
 //!   `txn::ClosedTransaction`: so what it reads and its net change are what the engine's own transaction has;
 //! - the keys of a check are those of `changes::push_check`, for each assertion that is meant, in the modes of
-//!   `alone::Modes`, over the changes that the statement makes (those of its `txn::Effect`, `changes::real_changes`),
-//!   or over the net change at COMMIT;
-//! - a view on which an assertion would be false is `delta::View::after` of these changes;
+//!   `alone::Modes`, over the rows that the statement changes (those of its `txn::AppliedEffect`), or over the net
+//!   change at COMMIT;
+//! - a view on which an assertion would be false is that of the same `txn::AppliedEffect`;
 //! - a change touches a read where `siread::touches` says so ([`conflict_between`]).
 //!
 //! [`Source`] finds the text of an event or a definition again.

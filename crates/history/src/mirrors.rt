@@ -182,6 +182,7 @@ fn execute(
     let most = match txn.trace().last() {
         Some(ResolvedStatement::Refused(_) | ResolvedStatement::SetModes { .. }) | None => 0,
         Some(ResolvedStatement::Verdict(_)) => usize::MAX,
+        Some(ResolvedStatement::Insert(new)) => new.rows.len(),
         Some(_) => 1,
     };
     for key in txn.reads().iter().skip(before).take(most) {

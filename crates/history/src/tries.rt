@@ -1,18 +1,14 @@
 //! What a statement does to the rows of a view, whatever its assertions say of it.
 
-ghost use Rattle.std.specs.Prelude.{IfOk};
-ghost use Rattle.assertion.specs.Declarations.{layouts_in};
-ghost use Rattle.txn.specs.Effects.{ArePutIn};
 ghost use Rattle.txn.specs.Runnable.{IsRunnable};
 
 use crate::histories::Happening;
 use alone::ResolvedStatement;
-use changes::real_changes;
 use delta::View;
 use std::alloc::{AllocError, Global};
 use syntax::Statement;
 use txn::{
-    Effect, delete_effect, filter_on, insert_effect, recall_order, resolve, unless_memory,
+    AppliedEffect, apply, apply_insert, delete_effect, filter_on, resolve, unless_memory,
     update_effect,
 };
 use value::Refusal;
@@ -39,20 +35,20 @@ fn try_resolved(
     requires runnable { IsRunnable own.now.declared statement.now }
 {
     match statement {
-        ResolvedStatement::Insert(new) => put_in_unless_refused(
-            own,
-            insert_effect(alloc, own, new),
-            happening,
-        ),
+        ResolvedStatement::Insert(new) => {
+            note_unless_refused(apply_insert(alloc, own, new), happening)
+        }
         ResolvedStatement::Update(update) => {
             let filter = filter_on(own, update.table, &update.filter)?;
-            let made = update_effect(alloc, own, update.sets.as_slice(), &filter);
-            put_in_unless_refused(own, made, happening)
+            match update_effect(alloc, own, update.sets.as_slice(), &filter) {
+                Ok(effect) => note(apply(own, effect), happening),
+                Err(refusal) => note_unless_refused(Err(refusal), happening),
+            }
         }
         ResolvedStatement::Delete(delete) => {
             let filter = filter_on(own, delete.table, &delete.filter)?;
             match delete_effect(alloc, own, &filter) {
-                Ok(effect) => put_in(own, effect, happening),
+                Ok(effect) => note(apply(own, effect), happening),
                 Err(error) => Err(error),
             }
         }
@@ -60,17 +56,13 @@ fn try_resolved(
     }
 }
 
-/// Notes the changes of an effect and the view with them, unless it was refused.
-fn put_in_unless_refused(
-    own: &View,
-    made: Result<Effect, Refusal>,
+/// Notes what an effect has changed, and the view that it leaves, unless it was refused.
+fn note_unless_refused(
+    made: Result<AppliedEffect, Refusal>,
     happening: &mut Happening,
-) -> Result<(), AllocError>
-    requires changes { IfOk made (λ effect.
-        ArePutIn (layouts_in own.now.declared) effect.changes.items own.now.state) }
-{
+) -> Result<(), AllocError> {
     match made {
-        Ok(effect) => put_in(own, effect, happening),
+        Ok(applied) => note(Ok(applied), happening),
         Err(refusal) => {
             unless_memory(refusal)?;
             Ok(())
@@ -78,14 +70,17 @@ fn put_in_unless_refused(
     }
 }
 
-/// Notes the changes of an effect, and the view with them.
-fn put_in(own: &View, effect: Effect, happening: &mut Happening) -> Result<(), AllocError>
-    requires changes { ArePutIn (layouts_in own.now.declared) effect.changes.items own.now.state }
-{
-    let Effect { reply: _, changes } = effect;
-    recall_order(own);
-    let view = own.after(changes.as_slice());
-    happening.changes = real_changes(changes);
-    happening.view = Some(view?);
+/// Notes what an effect has changed, and the view that it leaves.
+fn note(
+    made: Result<AppliedEffect, AllocError>,
+    happening: &mut Happening,
+) -> Result<(), AllocError> {
+    let AppliedEffect {
+        reply: _,
+        view,
+        changes,
+    } = made?;
+    happening.changes = changes;
+    happening.view = Some(view);
     Ok(())
 }

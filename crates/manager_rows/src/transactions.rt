@@ -60,7 +60,7 @@ fn commits_in_vain<N: Named, R: Wait + Abort>(
 
 fn insert<N: Named, R: Abort>(rt: &R, txn: &mut Txn<N>, event: &Event) {
     if let Event::Run(statement) = event {
-        assert!(rt; matches!(txn.execute(statement), Ok(Reply::Inserted)));
+        assert!(rt; matches!(txn.execute(statement), Ok(Reply::Inserted(1))));
     }
 }
 

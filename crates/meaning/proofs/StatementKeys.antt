@@ -39,7 +39,7 @@ checks_read_same None effect before after reads = refl
 checks_read_same (Some refusal) effect before after reads = refl
 
 -- an effect on the rows reads a key first
-effect_reads : (declared : Declared) (now : Standing) (read : LockKey) (effect : Result Effect Refusal) → (checks : List LockKey) × ((step_of_effect declared now read effect).reads ≡ read ∷ checks)
+effect_reads : (declared : Declared) (now : Standing) (read : LockKey) (effect : Result Effect Refusal) → (checks : List LockKey) × ((step_of_effect declared now (read ∷ []) effect).reads ≡ read ∷ checks)
 effect_reads declared now read (Err refusal) = let none : List LockKey = [] in (none, refl)
 effect_reads declared now read (Ok effect) =
     let view = state_after_all (layouts_in declared) effect.changes now.view in
@@ -82,6 +82,6 @@ UpdateReads-law declared start now name sets condition update e =
       checks,
       subst (λ (u : Update). IsWrittenKey tables name condition (filter_key u.table (key_of u.table (layouts_of tables)) u.filter)) u.made (key_read tables name condition u.target u.restriction u.found u.keeps),
       ap (λ r. (step_alone declared start now (statement_or_refusal statement.Update r)).reads) e
-          ∙ ap (λ b. (unless_key b (KeyUpdate (key_name layouts update.table)) now (step_of_effect declared now read effect)).reads) (checked_keyless tables name sets condition update e)
+          ∙ ap (λ b. (unless_key b (KeyUpdate (key_name layouts update.table)) now (step_of_effect declared now (read ∷ []) effect)).reads) (checked_keyless tables name sets condition update e)
           ∙ reads,
     )

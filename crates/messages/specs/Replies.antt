@@ -48,7 +48,7 @@ listed_columns all other = columns all
 
 -- the reply of a statement that was not refused
 abbrev pub reply_bytes : List Column → Event → Reply → List ℕ
-reply_bytes all event reply.Inserted = number_reply 8 1
+reply_bytes all event (reply.Inserted n) = number_reply 8 n
 reply_bytes all event (reply.Updated n) = number_reply 9 n
 reply_bytes all event (reply.Deleted n) = number_reply 10 n
 reply_bytes all event (reply.Rows rs) = 11 ∷ (listed_columns all event ++ rows rs)

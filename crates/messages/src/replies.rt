@@ -125,7 +125,7 @@ fn add_reply(
     ensures { OnOk result (bytes.new ≡ bytes.old ++ spec.reply_bytes columns.now event.now reply.now) }
 {
     match reply {
-        Reply::Inserted => add_numbered(bytes, INSERTED, 1),
+        Reply::Inserted(count) => add_numbered(bytes, INSERTED, *count),
         Reply::Updated(count) => add_numbered(bytes, UPDATED, *count),
         Reply::Deleted(count) => add_numbered(bytes, DELETED, *count),
         Reply::Rows(rows) => {

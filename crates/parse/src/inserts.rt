@@ -7,7 +7,8 @@ ghost use Rattle.syntax.specs.Reading as rd;
 ghost use Rattle.leaf_parser.specs.Reads.{Reads};
 
 use leaf_parser::{
-    Cursor, NamePart, Part, Stop, parse_name, parse_parens_list, parse_signed_number, parse_text,
+    Cursor, NamePart, Part, Stop, drop_and_stop, parse_list, parse_name, parse_parens_list,
+    parse_signed_number, parse_text,
 };
 use sqlite_items::Items;
 use std::alloc::Global;
@@ -57,6 +58,28 @@ impl Part for Constant {
     }
 }
 
+/// `"(" const { "," const } ")"`, where so many parentheses may be opened.
+#[derive(Drop)]
+struct RowValue {
+    alloc: Global,
+    depth: usize,
+}
+
+impl Part for RowValue {
+    ghost use Rattle.syntax.specs.StatementReaders as reader;
+
+    type Tree = Items<Value>;
+
+    ghost ready = { λ _. Unit {0} };
+
+    ghost reader = { λ r. reader.row_value r.depth };
+
+    #[tactic(auto, unfolding(syntax::specs::StatementReaders::row_value))]
+    fn parse(&self, cursor: &mut Cursor<'_>) -> Result<Items<Value>, Stop> {
+        parse_parens_list(self.alloc, &Constant(self.alloc), cursor, self.depth)
+    }
+}
+
 /// `[ "(" name { "," name } ")" ]`
 #[tactic(auto, unfolding(syntax::specs::StatementReaders::columns))]
 fn parse_columns(
@@ -72,7 +95,7 @@ fn parse_columns(
     Ok(Some(parse_parens_list(alloc, &NamePart(alloc), cursor, depth)?))
 }
 
-/// `INSERT INTO name [ "(" name { "," name } ")" ] VALUES "(" const { "," const } ")"`
+/// `INSERT INTO name [ "(" name { "," name } ")" ] VALUES row { "," row }`
 #[tactic(auto, unfolding(syntax::specs::StatementReaders::insert))]
 pub fn parse_insert(alloc: Global, cursor: &mut Cursor<'_>, depth: usize) -> Result<Insert, Stop>
     ensures { Reads (reader.insert depth cursor.old) result cursor.new }
@@ -82,10 +105,12 @@ pub fn parse_insert(alloc: Global, cursor: &mut Cursor<'_>, depth: usize) -> Res
     let table = parse_name(alloc, cursor)?;
     let columns = parse_columns(alloc, cursor, depth)?;
     cursor.expect(Kind::Values)?;
-    let values = parse_parens_list(alloc, &Constant(alloc), cursor, depth)?;
-    Ok(Insert {
-        table,
-        columns,
-        values,
-    })
+    match parse_list(alloc, &RowValue { alloc, depth }, cursor) {
+        Ok(rows) => Ok(Insert {
+            table,
+            columns,
+            rows,
+        }),
+        Err(stop) => Err(drop_and_stop(stop, (table, columns))),
+    }
 }

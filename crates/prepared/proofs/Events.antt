@@ -13,7 +13,7 @@ use Rattle.syntax.specs.StatementGrammar as g
 use Rattle.syntax.specs.declared.wants.PartInParentheses.{PartInParentheses}
 use Rattle.syntax.specs.Language.{Lexeme, Lexemes, Language}
 use Rattle.syntax.specs.Language as lang
-use Rattle.prepared.specs.Numerals.{numerals, numerals_of_parts, condition_numerals, expression_numerals, value_numerals, insert_numerals, assigned_numerals, assignment_numerals, filter_numerals, statement_numerals, event_numerals}
+use Rattle.prepared.specs.Numerals.{numerals, numerals_of_parts, condition_numerals, expression_numerals, value_numerals, row_numerals, insert_numerals, assigned_numerals, assignment_numerals, filter_numerals, statement_numerals, event_numerals}
 use Rattle.prepared.proofs.Yields.{Adds, Silent, yields_token, yields_number, yields_map, yields_then, yields_list, silent_pure, silent_or, silent_seq, silent_map, silent_optional, silent_parens, silent_list, adds_pure, adds_or, adds_seq, adds_parens, adds_map, adds_none, adds_behind}
 use Rattle.prepared.proofs.Rules.{abs_signed, silent_name, found_numerals, inner_expr, inner_cond, nested}
 
@@ -73,14 +73,18 @@ adds_constant =
     (adds_seq k.Plus _ value_numerals refl (adds_int false)))
     (adds_seq k.Minus _ value_numerals refl (adds_int true))
 
+adds_row : Adds g.row_value row_numerals
+unfolding g.row_value
+adds_row = adds_parens (lang.list g.constant) row_numerals (yields_list g.constant value_numerals adds_constant)
+
 adds_insert : Adds g.insert insert_numerals
 unfolding g.insert
 adds_insert =
     adds_seq k.Insert _ insert_numerals refl (adds_seq k.Into _ insert_numerals refl
     (adds_behind grammar.name _ insert_numerals silent_name (λ table. adds_behind g.columns _ insert_numerals silent_columns
     (λ columns. adds_seq k.Values _ insert_numerals refl
-    (adds_map (g.insert_of table columns) (lang.parens (lang.list g.constant)) (λ xs. numerals_of_parts (map value_numerals xs)) insert_numerals (λ xs. refl)
-    (adds_parens _ (λ xs. numerals_of_parts (map value_numerals xs)) (yields_list g.constant value_numerals adds_constant)))))))
+    (adds_map (g.insert_of table columns) (lang.list g.row_value) (λ rows. numerals_of_parts (map row_numerals rows)) insert_numerals (λ rows. refl)
+    (yields_list g.row_value row_numerals adds_row))))))
 
 -- ---- what may have parentheses in it
 

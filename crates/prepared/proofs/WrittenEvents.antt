@@ -29,7 +29,7 @@ use Rattle.prepared.specs.declared.faults.FillFault.TheVariants.{NumberOutOfRang
 use Rattle.prepared.specs.Numbers.{is_number}
 use Rattle.prepared.specs.Constants.{Argument, Constants, first_and_rest, and_then, then_made, next_by, constant_by, constant_of, expression_by, expression_of, assigned_by, assigned_of}
 use Rattle.prepared.specs.Conditions.{filled_expression, filled_condition}
-use Rattle.prepared.specs.Statements.{filled_value, filled_values, filled_insert, assigned_layer, filled_assigned, filled_assignment, filled_assignments, filled_filter, filled_statement, filled_event}
+use Rattle.prepared.specs.Statements.{filled_value, filled_values, filled_rows, filled_insert, assigned_layer, filled_assigned, filled_assignment, filled_assignments, filled_filter, filled_statement, filled_event}
 use Rattle.prepared.specs.Written.{IsConstant, IsValue, Writes, for_token, behind_token, written_token, tokens_with_constants}
 use Rattle.prepared.proofs.Keeps.{Prior, Sign, Other, Ends, Any, Clear, ClearAt, left, Kept, Keeps, Quiet, some_result, keeps_pure, keeps_or, keeps_either, keeps_into, keeps_less, keeps_as, keeps_then, keeps_map, keeps_seq, keeps_parens, keeps_behind, keeps_quiet, keeps_optional, keeps_list, quiet_pure, quiet_or, quiet_seq, quiet_less, quiet_parens, quiet_token, quiet_map, quiet_list, quiet_optional}
 use Rattle.prepared.proofs.Fills.{expression_rolled, no_answer}
@@ -219,6 +219,13 @@ module _ (write : Argument → Lexemes) (ok : Value → Type 0) where
         (keeps_into write ok _ _ _ now fill Other Any (λ w x h. inl (inr h)) (keeps_seq write ok k.Plus _ _ now fill Other Sign Any refl refl (number_sign false now))))
         (keeps_into write ok _ _ _ now fill Other Any (λ w x h. inr h) (keeps_seq write ok k.Minus _ _ now fill Other Sign Any refl refl (number_sign true now)))
 
+    row : (now : Constants) → Keeps write ok g.row_value g.row_value now (λ xs. filled_values xs now) Other Any
+    unfolding g.row_value
+    row now =
+        let fill = λ (xs : List Value). filled_values xs now in
+        keeps_less write ok _ _ now fill Other Ends Any (λ q ends. tt)
+        (keeps_parens write ok (lang.list g.constant) (lang.list g.constant) now fill Other Any (keeps_list write ok g.constant g.constant filled_value Any constant now))
+
     pub insert : (now : Constants) → Keeps write ok g.insert g.insert now (λ z. filled_insert z now) Other Any
     unfolding g.insert
     insert now =
@@ -227,10 +234,9 @@ module _ (write : Argument → Lexemes) (ok : Value → Type 0) where
         (keeps_behind write ok grammar.name _ _ now fill Other Ends Any (quiet_name write ok Other)
         (λ table p ends. keeps_behind write ok g.columns _ _ now fill p Any Any (quiet_columns p)
         (λ columns q any. keeps_seq write ok k.Values _ _ now fill q Other Any refl refl
-        (keeps_map write ok (g.insert_of table columns) (g.insert_of table columns) (lang.parens (lang.list g.constant)) (lang.parens (lang.list g.constant)) now (λ xs. filled_values xs now) fill Other Any
-        (keeps_less write ok _ _ now (λ xs. filled_values xs now) Other Ends Any (λ q ends. tt)
-        (keeps_parens write ok (lang.list g.constant) (lang.list g.constant) now (λ xs. filled_values xs now) Other Any (keeps_list write ok g.constant g.constant filled_value Any constant now)))
-        (λ xs ys rest is. ap (then_made (g.insert_of table columns)) is))))))
+        (keeps_map write ok (g.insert_of table columns) (g.insert_of table columns) (lang.list g.row_value) (lang.list g.row_value) now (λ rows. filled_rows rows now) fill Other Any
+        (keeps_list write ok g.row_value g.row_value filled_values Any row now)
+        (λ rows rows' rest is. ap (then_made (g.insert_of table columns)) is))))))
 
     -- ---- what may have parentheses in it
 

@@ -101,9 +101,13 @@ abbrev pub value_numerals : Value → Numerals
 value_numerals (v.Int n) = unsigned_abs n ∷ []
 value_numerals _ = []
 
--- those of the values of an INSERT
+-- those of a row of an INSERT
+abbrev pub row_numerals : List Value → Numerals
+row_numerals values = numerals_of_parts (map value_numerals values)
+
+-- those of the rows of an INSERT
 abbrev pub insert_numerals : Insert → Numerals
-insert_numerals insert = numerals_of_parts (map value_numerals insert.values)
+insert_numerals insert = numerals_of_parts (map row_numerals insert.rows)
 
 -- those of what a column is given
 abbrev pub assigned_numerals : UpdateSource → Numerals

@@ -27,14 +27,18 @@ filled_value v.Null constants = same v.Null constants
 filled_value (v.Text t) constants = same (v.Text t) constants
 filled_value (v.Int n) constants = next constant_of (v.Int n) constants
 
--- the values of an INSERT, from the left
+-- the values of a row of an INSERT, from the left
 abbrev pub filled_values : List Value → Filling (List Value)
 filled_values values = all (map filled_value values)
+
+-- the rows of an INSERT, in the order of the text
+abbrev pub filled_rows : List (List Value) → Filling (List (List Value))
+filled_rows rows = all (map filled_values rows)
 
 -- an INSERT with values in the places of its parameters
 abbrev pub filled_insert : Insert → Filling Insert
 filled_insert insert constants =
-    then_made (insert_of insert.table insert.columns) (filled_values insert.values constants)
+    then_made (insert_of insert.table insert.columns) (filled_rows insert.rows constants)
 
 -- what an UPDATE gives to a column: a number that is all of it may become NULL
 abbrev pub assigned_layer : Expression → Expression-F Condition Expression SelectList Query → Filling UpdateSource

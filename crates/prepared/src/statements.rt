@@ -26,7 +26,7 @@ fn fill_value(value: &Value, constants: &mut Constants) -> Result<Value, FillFau
     }
 }
 
-/// The values of an INSERT, from the left.
+/// The values of a row of an INSERT, from the left.
 #[tactic(auto, using(crate::proofs::Parts::so_far_next, crate::proofs::Parts::so_far_none))]
 fn fill_values(
     alloc: Global,
@@ -44,6 +44,26 @@ fn fill_values(
     Ok(Items::from_vec(made))
 }
 
+/// The rows of an INSERT, in the order of the text.
+#[tactic(auto, using(crate::proofs::Parts::so_far_next, crate::proofs::Parts::so_far_none))]
+fn fill_rows(
+    alloc: Global,
+    rows: &[Items<Value>],
+    constants: &mut Constants,
+) -> Result<Items<Items<Value>>, FillFault>
+    ensures made { IfOk result (λ made. spec.filled_rows rows.now constants.old ≡ Ok (made, constants.new)) }
+    ensures refused { IfErr result (λ fault. fault ≢ NoMemory → spec.filled_rows rows.now constants.old ≡ Err fault) }
+{
+    let mut made = Vec::new(alloc);
+    for row in rows {
+        made = match fill_values(alloc, row.as_slice(), constants) {
+            Ok(values) => put_behind(made, values)?,
+            Err(fault) => return Err(drop_and_fail(fault, made)),
+        };
+    }
+    Ok(Items::from_vec(made))
+}
+
 /// An INSERT.
 fn fill_insert(
     alloc: Global,
@@ -56,11 +76,11 @@ fn fill_insert(
 {
     let table = insert.table.copy()?;
     let columns = copy_columns(alloc, &insert.columns)?;
-    let values = fill_values(alloc, insert.values.as_slice(), constants)?;
+    let rows = fill_rows(alloc, insert.rows.as_slice(), constants)?;
     Ok(Insert {
         table,
         columns,
-        values,
+        rows,
     })
 }
 

@@ -121,7 +121,7 @@ row_lines (row ∷ rows) = (codes "\n  " ++ row_text row) ++ row_lines rows
 
 -- what a statement is answered that was not refused
 abbrev pub reply_text : Event → Reply → List ℕ
-reply_text event Inserted = codes "INSERT 1"
+reply_text event (Inserted n) = codes "INSERT " ++ decimal n
 reply_text event (Updated n) = codes "UPDATE " ++ decimal n
 reply_text event (Deleted n) = codes "DELETE " ++ decimal n
 reply_text event (Rows rows) = (codes "SELECT " ++ decimal (length rows)) ++ row_lines rows

@@ -7,7 +7,7 @@
 //! | what was answered | line |
 //! |---|---|
 //! | a transaction began on the tables that `n` commits left | `session: BEGIN n` |
-//! | an INSERT put its row in | `session: INSERT 1` |
+//! | an INSERT put `n` rows in | `session: INSERT n` |
 //! | an UPDATE set `n` rows | `session: UPDATE n` |
 //! | a DELETE took `n` rows out | `session: DELETE n` |
 //! | a SELECT lists `n` rows | `session: SELECT n`, and then `n` lines of rows |

@@ -79,7 +79,7 @@ fn write_reply_text<W: Write>(event: &Event, reply: &Reply, out: &mut W) -> io::
     ensures { OnOk result (Appends (W.contents out.old) (W.contents out.new) (reply_text event.now reply.now)) }
 {
     match reply {
-        Reply::Inserted => write_word("INSERT 1", out),
+        Reply::Inserted(count) => write_numbered("INSERT ", *count, out),
         Reply::Updated(count) => write_numbered("UPDATE ", *count, out),
         Reply::Deleted(count) => write_numbered("DELETE ", *count, out),
         Reply::Rows(rows) => {

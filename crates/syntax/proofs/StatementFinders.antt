@@ -87,11 +87,15 @@ columns_f : (n : ℕ) → Finds rank 0 st.columns (r.columns n)
 unfolding st.columns r.columns
 columns_f n = optional_f 0 k.Open (omega arith) (opens_token (λ next. next ≡ k.Open) k.Open refl) (finds_parens rank 0 n (lang.list g.name) (list q.name) (omega arith) (λ i is. lower 0 3 (omega arith) (list_f (name_f 4))))
 
+row_value_f : (n : ℕ) → Finds rank 4 st.row_value (r.row_value n)
+unfolding st.row_value r.row_value
+row_value_f n = finds_parens rank 4 n (lang.list st.constant) (list r.constant) (omega arith) (λ i is. lower 0 3 (omega arith) (list_f (constant_f 4)))
+
 pub insert_f : (n : ℕ) → Finds rank 0 st.insert (r.insert n)
 unfolding st.insert r.insert
 insert_f n =
     seq_f 0 k.Insert (seq_f 0 k.Into (named 0 (λ table. then_f 0 0 (columns_f n)
-    (λ w columns h. seq_f 0 k.Values (map_f 0 (st.insert_of table columns) (finds_parens rank 0 n (lang.list st.constant) (list r.constant) (omega arith) (λ i is. lower 0 3 (omega arith) (list_f (constant_f 4))))))
+    (λ w columns h. seq_f 0 k.Values (map_f 0 (st.insert_of table columns) (lower 0 3 (omega arith) (list_f (row_value_f n)))))
     (λ columns. follows_opens 0 0 (opens_token (λ kind. rank kind ≤ 0) k.Values (omega arith))))))
 
 pub insert_opens : (P : Kind → Type 0) → P k.Insert → Opens st.insert P

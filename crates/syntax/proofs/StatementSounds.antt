@@ -81,11 +81,15 @@ columns_s : (n : ℕ) → Sound n n st.columns (r.columns n)
 unfolding st.columns r.columns
 columns_s n = optional_s k.Open (sound_parens n (lang.list g.name) (list q.name) (some_list g.name (name_s 0).begins) (λ m is. list_s (name_s m)))
 
+row_value_s : (n : ℕ) → Sound n n st.row_value (r.row_value n)
+unfolding st.row_value r.row_value
+row_value_s n = sound_parens n (lang.list st.constant) (list r.constant) (some_list st.constant (constant_s 0).begins) (λ m is. list_s (constant_s m))
+
 pub insert_s : (n : ℕ) → Sound n n st.insert (r.insert n)
 unfolding st.insert r.insert
 insert_s n =
     seq_s k.Insert refl (seq_s k.Into refl (then_s (name_s n) (λ w table h. then_s (columns_s n) (λ w columns h. seq_s k.Values refl
-    (map_s (st.insert_of table columns) (sound_parens n (lang.list st.constant) (list r.constant) (some_list st.constant (constant_s 0).begins) (λ m is. list_s (constant_s m))))))))
+    (map_s (st.insert_of table columns) (list_s (row_value_s n)))))))
 
 set_constraints_s : (n : ℕ) → Sound n n st.set_constraints r.set_constraints
 unfolding st.set_constraints r.set_constraints

@@ -39,14 +39,18 @@ unfoldable pub columns : Language (Option (List (List ℕ)))
 columns = optional (parens (list name))
 
 -- the tree of an insert statement
-abbrev pub insert_of : List ℕ → Option (List (List ℕ)) → List Value → Insert
-insert_of table columns values = record { table = table; columns = columns; values = values }
+abbrev pub insert_of : List ℕ → Option (List (List ℕ)) → List (List Value) → Insert
+insert_of table columns rows = record { table = table; columns = columns; rows = rows }
 
--- INSERT INTO name [ "(" name { "," name } ")" ] VALUES "(" const { "," const } ")"
+-- row: "(" const { "," const } ")"
+unfoldable pub row_value : Language (List Value)
+row_value = parens (list constant)
+
+-- INSERT INTO name [ "(" name { "," name } ")" ] VALUES row { "," row }
 unfoldable pub insert : Language Insert
 insert =
     token k.Insert >> (token k.Into >> (name >>= (λ table.
-    columns >>= (λ columns. token k.Values >> (insert_of table columns <$> parens (list constant))))))
+    columns >>= (λ columns. token k.Values >> (insert_of table columns <$> list row_value)))))
 
 -- DEFERRED | IMMEDIATE
 unfoldable pub check_time : Language Mode

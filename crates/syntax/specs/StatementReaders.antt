@@ -81,11 +81,15 @@ module _ (n : ℕ) where
   unfoldable pub columns : Reader (Option (List (List ℕ)))
   columns = optional k.Open (parens n (list name))
 
+  -- reads row: the constants of one row
+  unfoldable pub row_value : Reader (List Value)
+  row_value = parens n (list constant)
+
   -- reads insert: an insert statement
   unfoldable pub insert : Reader Insert
   insert =
       expect k.Insert >> (expect k.Into >> (name >>= (λ table.
-      columns >>= (λ columns. expect k.Values >> (insert_of table columns <$> parens n (list constant))))))
+      columns >>= (λ columns. expect k.Values >> (insert_of table columns <$> list row_value)))))
 
   -- reads [WHERE cond]
   unfoldable pub where_clause : Reader (Option Condition)

@@ -4,12 +4,12 @@ use crate::trees::{Condition, Expression};
 use sqlite_items::{Boxed, Items};
 use value::{Text, Value};
 
-/// An INSERT, with the columns where they are listed.
+/// An INSERT of one row or several, with the columns where they are listed.
 #[derive(Drop)]
 pub struct Insert {
     pub table: Text,
     pub columns: Option<Items<Text>>,
-    pub values: Items<Value>,
+    pub rows: Items<Items<Value>>,
 }
 
 /// What an UPDATE gives to a column.

@@ -8,7 +8,7 @@ use Rattle.value.specs.declared.refusals.Refusal.TheVariants.{TypeMismatch}
 use Rattle.value.specs.declared.values.Value.{Value}
 use Rattle.value.specs.ValueOrder.{value_cmp}
 use Rattle.value.proofs.OrderedLists.{All-put}
-use Rattle.value.proofs.Results.{ok_same, unless_is}
+use Rattle.value.proofs.Results.{and_then_ok, ok_same, unless_is}
 use Rattle.table.specs.declared.rows.Change.{Change}
 use Rattle.table.specs.declared.schemas.Column.{Column}
 use Rattle.table.specs.Faults.{are_typed, row_fault, row_refusal}
@@ -19,17 +19,18 @@ use Rattle.assertion.specs.Declarations.{Declared, layouts_in}
 use Rattle.assertion.specs.Meaning.{State, rows_of}
 use Rattle.assertion.specs.Changes.{state_after, state_after_all}
 use Rattle.assertion.specs.declared.assertions.Assertion.{Assertion}
-use Rattle.assertcheck.specs.declared.inserts.NewRow.{NewRow}
+use Rattle.assertcheck.specs.declared.inserts.NewRows.{NewRows}
 use Rattle.assertcheck.specs.declared.updates.Setting.{Setting}
 use Rattle.alone.specs.declared.answers.Reply.{Reply}
 use Rattle.alone.specs.Modes.{assertion_of, is_immediate}
+use Rattle.alone.specs.Reads.{filter_key}
 use Rattle.siread.specs.declared.keys.LockKey.{LockKey}
 use Rattle.siread.specs.declared.keys.Place.{Place}
 use Rattle.alone.specs.declared.statements.ResolvedStatement.{ResolvedStatement}
 use Rattle.alone.specs.declared.statements.ResolvedStatement.TheVariants.{Refused as Refuse, Insert, Update, Delete, Select, SetModes, Verdict}
 use Rattle.alone.specs.Alone.{Standing, Step, step_of_effect, modes_step, ran, run_on, step_alone, unless_key, unless_violated, verdict_step}
 use Rattle.alone.specs.States.{net_change}
-use Rattle.alone.specs.Statements.{Effect, columns_of, delete_effect, found_rows, given_fault, given_value, insert_effect, inserted_at, place_in, removal, renewal, settings_fault, update_effect, update_fault, row_after_settings}
+use Rattle.alone.specs.Statements.{Effect, columns_of, delete_effect, found_rows, given_fault, given_value, insert_effect, inserted_at, insertion, insertions, place_in, removal, renewal, settings_fault, update_effect, update_fault, row_after_settings}
 use Rattle.alone.proofs.Lists.{Each, each_from}
 use Rattle.changes.proofs.Fitting.{faultless_fits, fits_set, set_nothing}
 use Rattle.delta.specs.Views.{IsFitting}
@@ -82,16 +83,29 @@ row_fits : (columns : List Column) (row : RowValues) (typed : Bool) → are_type
 row_fits columns row true typed e = FitsColumns-of columns row typed e
 row_fits columns row false typed e = cc
 
-inserted_fits : (layouts : List Layout) (place : Place) (row : RowValues) (name : List ℕ) (existing : Option RowValues) (effect : Effect) → FitsColumns (layout_at place.table layouts).columns row
-    → inserted_at name place row existing ≡ Ok effect → Each (IsFitting layouts) effect.changes
-inserted_fits layouts place row name None effect fits e = subst (λ (f : Effect). Each (IsFitting layouts) f.changes) (ok_same _ effect e) (fits, tt)
-inserted_fits layouts place row name (Some other) effect fits e = let no : ⊥ = cc in absurd no
+inserted_fits : (layouts : List Layout) (place : Place) (row : RowValues) (name : List ℕ) (existing : Option RowValues) (change : Change) → FitsColumns (layout_at place.table layouts).columns row
+    → inserted_at name place row existing ≡ Ok change → IsFitting layouts change
+inserted_fits layouts place row name None change fits e = subst (IsFitting layouts) (ok_same _ change e) fits
+inserted_fits layouts place row name (Some other) change fits e = let no : ⊥ = cc in absurd no
 
-insert_fits : (tables : Tables) (new : NewRow) (state : State) (effect : Effect) → insert_effect tables new state ≡ Ok effect → Each (IsFitting (layouts_of tables)) effect.changes
+insertion_fits : (tables : Tables) (table : ℕ) (state : State) (row : RowValues) (change : Change) → insertion tables table state row ≡ Ok change → IsFitting (layouts_of tables) change
+insertion_fits tables table state row change e =
+    let parts = unless_is (row_refusal (columns_of table (layouts_of tables)) row) _ change e in
+    inserted_fits (layouts_of tables) (place_in (layouts_of tables) table row) row _ _ change
+    (row_fits (columns_of table (layouts_of tables)) row (are_typed (columns_of table (layouts_of tables)) row) refl parts.0) parts.1
+
+insertions_fit : (tables : Tables) (table : ℕ) (rows : List RowValues) (state : State) (changes : List Change) → insertions tables table state rows ≡ Ok changes → Each (IsFitting (layouts_of tables)) changes
+insertions_fit tables table [] state changes e = subst (Each (IsFitting (layouts_of tables))) (ok_same [] changes e) tt
+insertions_fit tables table (row ∷ rest) state changes e =
+    let first = and_then_ok (insertion tables table state row) _ changes e in
+    let more = and_then_ok (insertions tables table (state_after (layouts_of tables) first.0 state) rest) _ changes first.1.1 in
+    subst (Each (IsFitting (layouts_of tables))) (ok_same _ changes more.1.1)
+    (insertion_fits tables table state row first.0 first.1.0, insertions_fit tables table rest (state_after (layouts_of tables) first.0 state) more.0 more.1.0)
+
+insert_fits : (tables : Tables) (new : NewRows) (state : State) (effect : Effect) → insert_effect tables new state ≡ Ok effect → Each (IsFitting (layouts_of tables)) effect.changes
 insert_fits tables new state effect e =
-    let parts = unless_is (row_refusal (columns_of new.table (layouts_of tables)) new.row) _ effect e in
-    inserted_fits (layouts_of tables) (place_in (layouts_of tables) new) new.row _ _ effect
-    (row_fits (columns_of new.table (layouts_of tables)) new.row (are_typed (columns_of new.table (layouts_of tables)) new.row) refl parts.0) parts.1
+    let made = and_then_ok (insertions tables new.table state new.rows) _ effect e in
+    subst (λ (f : Effect). Each (IsFitting (layouts_of tables)) f.changes) (ok_same _ effect made.1.1) (insertions_fit tables new.table new.rows state made.0 made.1.0)
 
 delete_fits : (layouts : List Layout) (table key : ℕ) (rows : List RowValues) → Each (IsFitting layouts) (map (removal table key) rows)
 delete_fits layouts table key [] = tt
@@ -133,10 +147,10 @@ module _ (declared : Declared) where
   unless_fits None reply before after reads old new = new
   unless_fits (Some refusal) reply before after reads old new = old
 
-  effected_fits : (now : Standing) (read : LockKey) (made : Result Effect Refusal) → ((effect : Effect) → made ≡ Ok effect → Each (IsFitting (layouts_in declared)) effect.changes) → Fit now
-      → Fit (step_of_effect declared now read made).after
-  effected_fits now read (Err refusal) new old = old
-  effected_fits now read (Ok effect) new old =
+  effected_fits : (now : Standing) (reads : List LockKey) (made : Result Effect Refusal) → ((effect : Effect) → made ≡ Ok effect → Each (IsFitting (layouts_in declared)) effect.changes) → Fit now
+      → Fit (step_of_effect declared now reads made).after
+  effected_fits now reads (Err refusal) new old = old
+  effected_fits now reads (Ok effect) new old =
       unless_fits _ effect.reply now (record { view = state_after_all (layouts_in declared) effect.changes now.view; modes = now.modes }) _ old
       (fit_after_all (layouts_in declared) effect.changes now.view (new effect refl) old)
 
@@ -157,11 +171,11 @@ module _ (declared : Declared) where
   step_fits start now (Insert new) old = effected_fits now _ (insert_effect declared.tables new now.view) (insert_fits declared.tables new now.view) old
   step_fits start now (Update u) old =
       unless_key_fits _ _ now _ old
-      (effected_fits now _ (update_effect (columns_of u.table (layouts_in declared)) u.table (key_of u.table (layouts_in declared)) u.sets (found_rows now.view u.table u.filter))
+      (effected_fits now (filter_key u.table (key_of u.table (layouts_in declared)) u.filter ∷ []) (update_effect (columns_of u.table (layouts_in declared)) u.table (key_of u.table (layouts_in declared)) u.sets (found_rows now.view u.table u.filter))
       (λ effect. update_fits (layouts_in declared) u.table (key_of u.table (layouts_in declared)) u.sets (found_rows now.view u.table u.filter) effect
       (All-filter (λ (row : RowValues). keeps row [] u.filter) (FitsColumns (columns_of u.table (layouts_in declared))) (rows_of u.table now.view) (old u.table))) old)
   step_fits start now (Delete d) old =
-      effected_fits now _ (Ok (delete_effect d.table (key_of d.table (layouts_in declared)) (found_rows now.view d.table d.filter)))
+      effected_fits now (filter_key d.table (key_of d.table (layouts_in declared)) d.filter ∷ []) (Ok (delete_effect d.table (key_of d.table (layouts_in declared)) (found_rows now.view d.table d.filter)))
       (λ effect e. subst (λ (f : Effect). Each (IsFitting (layouts_in declared)) f.changes) (ok_same _ effect e) (delete_fits (layouts_in declared) d.table (key_of d.table (layouts_in declared)) (found_rows now.view d.table d.filter))) old
   step_fits start now (Select s) old = old
   step_fits start now (SetModes names mode) old = modes_fits start names (is_immediate mode) now old

@@ -1,5 +1,6 @@
 mod Checking
 mod Holding
+mod Inserting
 mod Naming
 mod Putting
 pub mod Fits

@@ -1,5 +1,5 @@
 -- What changes that are put in leave of a state.
-use Rattle.std.proofs.Common.{◌≡◌, ℕ, true, List, [], ◌∷◌, Option, Some, None, Ok, refl, sym, ap, ◌∙◌, subst, inl, inr}
+use Rattle.std.proofs.Common.{◌≡◌, ◌++◌, ℕ, true, List, [], Option, Some, None, Ok, refl, sym, ap, ◌∙◌, subst, inl, inr}
 use Rattle.std.specs.Prelude.{unwrap_or}
 use Rattle.value.specs.declared.refusals.Refusal.{Refusal}
 use Rattle.table.specs.declared.rows.Change.{Change}
@@ -56,12 +56,12 @@ module _ (own : ViewState) (modes : Immediates) where
   checked = immediate_ones modes own.declared.assertions
 
   -- rows that are left unless an assertion is violated are those of the step
-  pub rows_done : (read : LockKey) (effect : Effect) (after : ViewState) (found violated : Option Refusal) (done : StepResult) → after.state ≡ state_after_all layouts effect.changes own.state
+  pub rows_done : (found_under : List LockKey) (effect : Effect) (after : ViewState) (found violated : Option Refusal) (done : StepResult) → after.state ≡ state_after_all layouts effect.changes own.state
       → found ≡ violation layouts checked (state_after_all layouts effect.changes own.state) → violated ≡ found
-      → done.reads.items ≡ read ∷ checks_read layouts (state_after_all layouts effect.changes own.state) checked (net_change layouts own.state (state_after_all layouts effect.changes own.state))
+      → done.reads.items ≡ found_under ++ checks_read layouts (state_after_all layouts effect.changes own.state) checked (net_change layouts own.state (state_after_all layouts effect.changes own.state))
       → IsLeft violated effect.reply (Some after) None done
-      → IsDone (standing_with own modes) (step_of_effect own.declared (standing_with own modes) read (Ok effect)) done
-  rows_done read effect after found None done e f g r left =
+      → IsDone (standing_with own modes) (step_of_effect own.declared (standing_with own modes) found_under (Ok effect)) done
+  rows_done found_under effect after found None done e f g r left =
       subst (λ o. IsDone (standing_with own modes) (unless_violated o effect.reply (standing_with own modes) new reads) done) (g ∙ f) (record {
         reply = sym left.0;
         after = left_so own modes _ done left.1 left.2 e;
@@ -72,8 +72,8 @@ module _ (own : ViewState) (modes : Immediates) where
       new = record { view = state_after_all (layouts_in own.declared) effect.changes own.state; modes = modes }
 
       reads : List LockKey
-      reads = read ∷ checks_read (layouts_in own.declared) (state_after_all (layouts_in own.declared) effect.changes own.state) (immediate_ones modes own.declared.assertions) (net_change (layouts_in own.declared) own.state (state_after_all (layouts_in own.declared) effect.changes own.state))
-  rows_done read effect after found (Some refusal) done e f g r left =
+      reads = found_under ++ checks_read (layouts_in own.declared) (state_after_all (layouts_in own.declared) effect.changes own.state) (immediate_ones modes own.declared.assertions) (net_change (layouts_in own.declared) own.state (state_after_all (layouts_in own.declared) effect.changes own.state))
+  rows_done found_under effect after found (Some refusal) done e f g r left =
       subst (λ o. IsDone (standing_with own modes) (unless_violated o effect.reply (standing_with own modes) new reads) done) (g ∙ f) (record {
         reply = sym left.0;
         after = left_none own modes done left.1 left.2;
@@ -84,7 +84,7 @@ module _ (own : ViewState) (modes : Immediates) where
       new = record { view = state_after_all (layouts_in own.declared) effect.changes own.state; modes = modes }
 
       reads : List LockKey
-      reads = read ∷ checks_read (layouts_in own.declared) (state_after_all (layouts_in own.declared) effect.changes own.state) (immediate_ones modes own.declared.assertions) (net_change (layouts_in own.declared) own.state (state_after_all (layouts_in own.declared) effect.changes own.state))
+      reads = found_under ++ checks_read (layouts_in own.declared) (state_after_all (layouts_in own.declared) effect.changes own.state) (immediate_ones modes own.declared.assertions) (net_change (layouts_in own.declared) own.state (state_after_all (layouts_in own.declared) effect.changes own.state))
 
   -- and these are the changes to them
   pub rows_between : (real put : List Change) (after : ViewState) (reply : Reply) (violated : Option Refusal) (done : StepResult)

@@ -6,13 +6,13 @@ ghost use Rattle.assertion.specs.Declarations.{layouts_in};
 ghost use Rattle.table.specs.Rows.{names_of};
 ghost use Rattle.alone.specs.States.{IsState};
 ghost use Rattle.assertcheck.specs.Updates.{IsBoundedSetting};
-ghost use Rattle.alone.specs.Statements.{insert_effect, sets_key};
+ghost use Rattle.alone.specs.Statements.{sets_key};
 ghost use Rattle.txn.specs.Effects.{ArePutIn, delete_of, filter_on, update_of};
 ghost use Rattle.txn.specs.Runnable.{IsRunnableFilter};
 
 use alone::Reply;
-use assertcheck::{NewRow, Setting};
-use changes::{TableFilter, insertion, removals, renewals};
+use assertcheck::Setting;
+use changes::{TableFilter, removals, renewals};
 use delta::View;
 use std::alloc::{AllocError, Global};
 use table::{Change, Cond};
@@ -23,33 +23,6 @@ use value::{Refusal, Text};
 pub struct Effect {
     pub reply: Reply,
     pub changes: Vec<Change>,
-}
-
-/// INSERT: the row comes to stand at its key. Its refusals are those of `changes::insertion`.
-pub fn insert_effect(alloc: Global, view: &View, new: &NewRow) -> Result<Effect, Refusal>
-    requires table_in { new.now.table < length view.now.declared.tables }
-    ensures made { IfOk result (λ effect.
-        insert_effect view.now.declared.tables new.now view.now.state
-        ≡ Ok (record { reply = effect.reply; changes = effect.changes.items })) }
-    ensures refused { IfErr result (λ refusal.
-        refusal ≢ NoMemory → insert_effect view.now.declared.tables new.now view.now.state ≡ Err refusal) }
-    ensures put_in { IfOk result (λ effect.
-        ArePutIn (layouts_in view.now.declared) effect.changes.items view.now.state) }
-{
-    recall_table(view, new.table);
-    let change = insertion(
-        table_name(view, new.table),
-        new.table,
-        view.schema(new.table),
-        view.rows(new.table),
-        new.row.copy()?,
-    )?;
-    let mut changes = Vec::with_capacity(alloc, 1)?;
-    changes.push(change)?;
-    Ok(Effect {
-        reply: Reply::Inserted,
-        changes,
-    })
 }
 
 /// A WHERE on a table of a view.
@@ -130,7 +103,7 @@ pub fn recall_order(view: &View)
 }
 
 /// The name of the table at a place of the catalog.
-fn table_name(view: &View, table: usize) -> &Text
+pub fn table_name(view: &View, table: usize) -> &Text
     requires { table < length view.now.declared.tables }
     ensures { result.now ≡ slice_index_or (names_of view.now.declared.tables) table [] }
 {

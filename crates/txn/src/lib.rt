@@ -25,9 +25,9 @@
 //! - [`find_violation`] is the refusal by the first assertion that is false, of those that are meant. [`find_false`]
 //!   lends its name and the least root at which it is; [`find_first_false`] does so of all assertions, also for tables
 //!   that a transaction is to begin on.
-//! - [`resolve`] finds a statement's names, and [`insert_effect`], [`update_effect`] and [`delete_effect`] are what it
-//!   does to the rows of a view before its assertions are asked, the last two by its WHERE on a table of the view
-//!   ([`filter_on`]): for who explains a refused statement.
+//! - [`resolve`] finds a statement's names. [`update_effect`] and [`delete_effect`] are what it does to the rows of a
+//!   view by its WHERE on a table of the view ([`filter_on`]), and [`apply`] puts that into the view, as
+//!   [`apply_insert`] does new rows, before its assertions are asked: for who explains a refused statement.
 //!
 //! **Why each reply is that from scratch.** Of a transaction, contracts show six things: what is declared, its begin
 //! number and snapshot, whether it is read only, the state that it began on, and its trace. They name no own view and
@@ -54,6 +54,7 @@
 #![tactic(auto)]
 
 mod accesses;
+mod applied;
 mod checks;
 mod closed;
 mod copies;
@@ -65,9 +66,10 @@ mod traces;
 mod txns;
 
 pub use accesses::Access;
+pub use applied::{AppliedEffect, apply, apply_insert};
 pub use checks::{find_false, find_first_false, find_violation, list_truths, verdict_on};
 pub use closed::{CloseFailure, ClosedTransaction, Parts};
 pub use copies::{copy_changes, copy_record};
-pub use effects::{Effect, delete_effect, filter_on, insert_effect, recall_order, update_effect};
+pub use effects::{Effect, delete_effect, filter_on, recall_order, update_effect};
 pub use resolutions::{resolve, unless_memory};
 pub use txns::Txn;

@@ -1,38 +1,37 @@
 //! A statement of a transaction alone.
 
-ghost use Rattle.std.specs.Prelude.{◌≡◌, ◌≢◌, ◌<◌, ◌++◌, [], ◌∷◌, length, true, unwrap_or, IfOk, OnErr, OnOk, Ok, Err, None, Some};
+ghost use Rattle.std.specs.Prelude.{◌≡◌, ◌≢◌, ◌<◌, ◌++◌, [], ◌∷◌, length, map, true, unwrap_or, IfOk, OnErr, OnOk, Ok, Err, None, Some};
 ghost use Rattle.value.specs.Ordered.{HoldsOf};
 ghost use Rattle.value.specs.declared.refusals.Refusal.TheVariants.{NoMemory};
 ghost use Rattle.assertion.specs.Declarations.{layouts_in};
 ghost use Rattle.assertion.specs.Meaning.{State};
 ghost use Rattle.table.specs.Rows.{key_of};
-ghost use Rattle.siread.specs.declared.keys.LockKey.{LockKey as AnyKey};
+ghost use Rattle.siread.specs.declared.keys.LockKey.TheVariants.{Row as OneRow};
 ghost use Rattle.alone.specs.Modes.{Immediates, assertion_of, is_immediate, modes_with};
 ghost use Rattle.alone.specs.declared.answers.Reply.TheVariants as replies;
 ghost use Rattle.alone.specs.declared.answers.Reply.TheVariants.{ModesSet};
 ghost use Rattle.alone.specs.Alone.{step_of_effect, modes_step, step_alone, verdict_step};
 ghost use Rattle.alone.specs.Reads.{filter_key};
 ghost use Rattle.alone.specs.States.{IsState, net_change};
-ghost use Rattle.alone.specs.Statements.{found_rows, selected_rows, place_in};
+ghost use Rattle.alone.specs.Statements.{Effect as AnyEffect, found_rows, places_in, place_in, selected_rows};
 ghost use Rattle.changes.specs.Nets.{AreChangesBetween, AreNoted};
 ghost use Rattle.txn.specs.Effects.{ArePutIn};
 ghost use Rattle.txn.specs.Runnable.{IsRunnable, IsRunnableDelete, IsRunnableSelect, IsRunnableUpdate};
-ghost use Rattle.txn.specs.Steps.{ArePut, IsDone, IsKnown, IsLeft, IsOf, delete_step, insert_step, left_by, shown_effect, standing_with, update_step};
+ghost use Rattle.txn.specs.Steps.{ArePut, HasApplied, IsDone, IsKnown, IsLeft, IsOf, delete_step, insert_step, left_by, shown_effect, standing_with, update_step};
 
+use crate::applied::{AppliedEffect, apply, apply_insert};
 use crate::checks::{find_assertion, find_violation};
-use crate::effects::{
-    Effect, delete_effect, filter_on, insert_effect, recall_order, recall_table, update_effect,
-};
+use crate::effects::{Effect, delete_effect, filter_on, recall_order, recall_table, update_effect};
 use crate::resolutions::unless_memory;
 use alone::{Modes, Reply, ResolvedStatement};
-use assertcheck::{Delete, NewRow, Select, Update};
-use changes::{TouchedRows, checks_read, push_checks, real_changes, selected_rows, tables_read};
+use assertcheck::{Delete, NewRows, Select, Update};
+use changes::{TouchedRows, checks_read, push_checks, selected_rows, tables_read};
 use delta::View;
 use siread::{LockKey, Place};
 use sqlite_items::Items;
 use std::alloc::{AllocError, Global};
 use syntax::Mode;
-use table::Change;
+use table::{Change, Row};
 use value::{Refusal, Text, Value};
 
 /// What a statement answered, a refusal among the answers, what it left where that is another than before, and what
@@ -133,12 +132,12 @@ fn list_one(alloc: Global, key: LockKey) -> Result<Vec<LockKey>, AllocError>
     Ok(keys)
 }
 
-/// INSERT, which reads the row of its key.
+/// INSERT, which reads the rows of its keys.
 fn run_insert(
     alloc: Global,
     own: &View,
     modes: &Modes,
-    new: &NewRow,
+    new: &NewRows,
 ) -> Result<StepResult, AllocError>
     requires table_in { new.now.table < length own.now.declared.tables }
     requires modes { length modes.now ≡ length own.now.declared.assertions }
@@ -149,9 +148,9 @@ fn run_insert(
         AreChangesBetween (layouts_in own.now.declared) own.now.state
         (left_by (standing_with own.now modes.now) done).view done.changes.items) }
 {
-    let reads = list_one(alloc, LockKey::Row(place_in(own, new)?))?;
-    match insert_effect(alloc, own, new) {
-        Ok(effect) => put_in(own, modes, reads, effect),
+    let reads = list_places(alloc, own, new)?;
+    match apply_insert(alloc, own, new) {
+        Ok(applied) => check_applied(own, modes, reads, applied),
         Err(refusal) => refuse_unless_memory(refusal, reads),
     }
 }
@@ -203,21 +202,32 @@ fn run_delete(
     put_in(own, modes, reads, effect)
 }
 
-/// The place at which a new row is to stand.
-fn place_in(own: &View, new: &NewRow) -> Result<Place, AllocError>
+/// The places at which new rows are to stand, with room for two keys more, which the check of a change by groups reads.
+fn list_places(alloc: Global, own: &View, new: &NewRows) -> Result<Vec<LockKey>, AllocError>
     requires table_in { new.now.table < length own.now.declared.tables }
-    ensures { IfOk result (λ place. place ≡ place_in (layouts_in own.now.declared) new.now) }
+    ensures { IfOk result (λ keys. keys.items ≡ map OneRow (places_in (layouts_in own.now.declared) new.now)) }
+{
+    let rows = new.rows.as_slice();
+    let mut keys = Vec::with_capacity(alloc, rows.len().saturating_add(2))?;
+    for row in rows {
+        let place = place_in(own, new.table, row)?;
+        keys.push(LockKey::Row(place))?;
+    }
+    Ok(keys)
+}
+
+/// The place at which a new row of a table is to stand.
+fn place_in(own: &View, table: usize, row: &Row) -> Result<Place, AllocError>
+    requires table_in { table < length own.now.declared.tables }
+    ensures { IfOk result (λ place. place ≡ place_in (layouts_in own.now.declared) table row.now) }
 {
     // (that there are rows for each table is a clause of the catalog)
     let _ = own.catalog();
-    let key = match new.row.values().get(own.schema(new.table).key()) {
+    let key = match row.values().get(own.schema(table).key()) {
         Some(key) => key.copy()?,
         None => Value::Null,
     };
-    Ok(Place {
-        table: new.table,
-        key,
-    })
+    Ok(Place { table, key })
 }
 
 /// Puts an effect in, and checks the immediate assertions on what it leaves. `reads` is what it was found under.
@@ -229,23 +239,49 @@ fn put_in(
 ) -> Result<StepResult, AllocError>
     requires modes { length modes.now ≡ length own.now.declared.assertions }
     requires changes { ArePutIn (layouts_in own.now.declared) effect.changes.items own.now.state }
-    ensures done { IfOk result (λ done. (read : AnyKey) → reads.items ≡ read ∷ []
-        → IsDone (standing_with own.now modes.now)
-        (step_of_effect own.now.declared (standing_with own.now modes.now) read (Ok (shown_effect effect))) done) }
+    ensures done { IfOk result (IsDone (standing_with own.now modes.now)
+        (step_of_effect own.now.declared (standing_with own.now modes.now) reads.items (Ok (shown_effect effect)))) }
     ensures of { IfOk result (IsOf own.now.declared) }
     ensures known { IfOk result IsKnown }
     ensures changes { IfOk result (λ done.
         AreChangesBetween (layouts_in own.now.declared) own.now.state
         (left_by (standing_with own.now modes.now) done).view done.changes.items) }
 {
-    let Effect { reply, changes } = effect;
+    let applied = apply(own, effect)?;
+    check_applied(own, modes, reads, applied)
+}
+
+/// Checks the immediate assertions on what an effect has left. `reads` is what it was found under.
+fn check_applied(
+    own: &View,
+    modes: &Modes,
+    reads: Vec<LockKey>,
+    applied: AppliedEffect,
+) -> Result<StepResult, AllocError>
+    requires modes { length modes.now ≡ length own.now.declared.assertions }
+    requires declared { applied.view.declared ≡ own.now.declared }
+    requires changes { applied.changes.items
+        ≡ net_change (layouts_in own.now.declared) own.now.state applied.view.state }
+    ensures done { IfOk result (λ done. (effect : AnyEffect) → HasApplied own.now effect applied
+        → IsDone (standing_with own.now modes.now)
+        (step_of_effect own.now.declared (standing_with own.now modes.now) reads.items (Ok effect)) done) }
+    ensures of { IfOk result (IsOf own.now.declared) }
+    ensures known { IfOk result IsKnown }
+    ensures changes { IfOk result (λ done.
+        AreChangesBetween (layouts_in own.now.declared) own.now.state
+        (left_by (standing_with own.now modes.now) done).view done.changes.items) }
+{
+    let AppliedEffect {
+        reply,
+        view,
+        changes,
+    } = applied;
     let mut reads = reads;
     recall_order(own);
-    let after = own.after(changes.as_slice())?;
-    let real = real_changes(changes);
-    push_checks(&mut reads, &after, modes, real.as_slice())?;
-    let violated = find_violation(&after, modes)?;
-    Ok(leave_rows_unless(violated, reply, after, real, reads))
+    recall_order(&view);
+    push_checks(&mut reads, &view, modes, changes.as_slice())?;
+    let violated = find_violation(&view, modes)?;
+    Ok(leave_rows_unless(violated, reply, view, changes, reads))
 }
 
 /// These rows are left, unless an assertion is violated.

@@ -4,7 +4,7 @@ ghost use Rattle.std.specs.Prelude.{◌≡◌, IfOk};
 
 use crate::copies::{Part, copy_all, copy_if};
 use alone::ResolvedStatement;
-use assertcheck::{Delete, NewRow, Select, Setting, Update};
+use assertcheck::{Delete, NewRows, Select, Setting, Update};
 use sqlite_items::Items;
 use std::alloc::{AllocError, Global};
 
@@ -24,7 +24,9 @@ impl Part for ResolvedStatement {
     {
         match self {
             ResolvedStatement::Refused(refusal) => Ok(ResolvedStatement::Refused(refusal.copy()?)),
-            ResolvedStatement::Insert(new) => Ok(ResolvedStatement::Insert(copy_new_row(new)?)),
+            ResolvedStatement::Insert(new) => Ok(ResolvedStatement::Insert(copy_new_rows(
+                alloc, new,
+            )?)),
             ResolvedStatement::Update(update) => Ok(ResolvedStatement::Update(copy_update(
                 alloc, update,
             )?)),
@@ -43,12 +45,12 @@ impl Part for ResolvedStatement {
     }
 }
 
-fn copy_new_row(new: &NewRow) -> Result<NewRow, AllocError>
+fn copy_new_rows(alloc: Global, new: &NewRows) -> Result<NewRows, AllocError>
     ensures { IfOk result (λ copy. copy ≡ new.now) }
 {
-    Ok(NewRow {
+    Ok(NewRows {
         table: new.table,
-        row: new.row.copy()?,
+        rows: copy_all(alloc, new.rows.as_slice())?,
     })
 }
 
