@@ -32,20 +32,20 @@ use Rattle.txn.specs.Steps.{HasInserted}
 use Rattle.txn.proofs.Putting.{between_none}
 
 -- the state after changes, and after one change more
-pub after_one_more : (layouts : List Layout) (changes : List Change) (change : Change) (state : State)
+after_one_more : (layouts : List Layout) (changes : List Change) (change : Change) (state : State)
     → state_after_all layouts (changes ++ change ∷ []) state ≡ state_after layouts change (state_after_all layouts changes state)
 after_one_more layouts [] change state = refl
 after_one_more layouts (first ∷ rest) change state = after_one_more layouts rest change (state_after layouts first state)
 
 -- the changes so far, one more, and those of the rows behind it
-pub row_next : (tables : Tables) (table : ℕ) (made : List Change) (state : State) (row : RowValues) (rest : List RowValues) (change : Change) → insertion tables table state row ≡ Ok change
+row_next : (tables : Tables) (table : ℕ) (made : List Change) (state : State) (row : RowValues) (rest : List RowValues) (change : Change) → insertion tables table state row ≡ Ok change
     → behind made (insertions tables table state (row ∷ rest)) ≡ behind (made ++ change ∷ []) (insertions tables table (state_after (layouts_of tables) change state) rest)
 row_next tables table made state row rest change e =
     ap (λ (r : Result Change Refusal). behind made (and_then r (λ first. and_then (insertions tables table (state_after (layouts_of tables) first state) rest) (λ more. Ok (first ∷ more))))) e
     ∙ behind_next made change (insertions tables table (state_after (layouts_of tables) change state) rest)
 
 -- and a row that can't be put in
-pub row_fault : (tables : Tables) (table : ℕ) (made : List Change) (state : State) (row : RowValues) (rest : List RowValues) (refusal : Refusal) → insertion tables table state row ≡ Err refusal
+row_fault : (tables : Tables) (table : ℕ) (made : List Change) (state : State) (row : RowValues) (rest : List RowValues) (refusal : Refusal) → insertion tables table state row ≡ Err refusal
     → behind made (insertions tables table state (row ∷ rest)) ≡ Err refusal
 row_fault tables table made state row rest refusal e =
     ap (λ (r : Result Change Refusal). behind made (and_then r (λ first. and_then (insertions tables table (state_after (layouts_of tables) first state) rest) (λ more. Ok (first ∷ more))))) e
@@ -197,6 +197,7 @@ module _ (tables : Tables) (table : ℕ) (there : table < length (layouts_of tab
         ]
       ]
 
+  -- new rows that are put in are such changes
   insertions_new : (rows : List RowValues) (state : State) → IsState layouts state → (changes : List Change) → insertions tables table state rows ≡ Ok changes
       → AreNew state (state_after_all layouts changes state) changes
   insertions_new [] state fit changes e =
@@ -212,11 +213,6 @@ module _ (tables : Tables) (table : ℕ) (there : table < length (layouts_of tab
       subst (λ (cs : List Change). AreNew state (state_after_all layouts cs state) cs) (ap (λ (c : Change). c ∷ more.0) is.0 ∙ ok_same (first.0 ∷ more.0) changes more.1.1)
       (behind_new row state (state_after_all layouts (new_row row ∷ more.0) state) more.0 fit is.1
       (subst (λ (s : State). AreNew s (state_after_all layouts more.0 s) more.0) (sym moved) later))
-
-  -- new rows that are put in are the changes between the states before and after them
-  pub insertions_between : (rows : List RowValues) (state : State) → IsState layouts state → (changes : List Change) → insertions tables table state rows ≡ Ok changes
-      → AreChangesBetween layouts state (state_after_all layouts changes state) changes
-  insertions_between rows state fit changes e = (insertions_new rows state fit changes e).between
 
 -- changes of which there is no more than one are in order
 pub short_in_order : (changes : List Change) → length changes ≤ 1 → AreInOrder changes
@@ -237,7 +233,7 @@ has_inserted own new applied changes table_in fit fit' made view reply net =
     let layouts = layouts_in own.declared in
     let there : new.table < length layouts = subst (λ n. new.table < n) (sym (length-map own.declared.tables (λ declared. declared.1))) table_in in
     let between : AreChangesBetween layouts own.state applied.view.state changes =
-    subst (λ (v : ViewState). AreChangesBetween layouts own.state v.state changes) (sym view) (insertions_between own.declared.tables new.table there new.rows own.state fit changes made) in
+    subst (λ (v : ViewState). AreChangesBetween layouts own.state v.state changes) (sym view) (insertions_new own.declared.tables new.table there new.rows own.state fit changes made).between in
     record {
       effect = record { reply = Inserted (length new.rows); changes = changes };
       made = ap (λ (r : Result (List Change) Refusal). and_then r (λ (cs : List Change). let e : Result Effect Refusal = Ok (record { reply = Inserted (length new.rows); changes = cs }) in e)) made;

@@ -69,7 +69,7 @@ pub fn apply_insert(alloc: Global, own: &View, new: &NewRows) -> Result<AppliedE
 }
 
 /// The view with new rows of a table, and the change that each of them is.
-#[tactic(auto, using(crate::proofs::Inserting::after_one_more, crate::proofs::Inserting::row_fault, crate::proofs::Inserting::row_next, value::proofs::Results::behind_none))]
+#[tactic(auto, using(value::proofs::Results::behind_none))]
 fn put_rows(
     alloc: Global,
     own: &View,
