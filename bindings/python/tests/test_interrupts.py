@@ -200,10 +200,17 @@ class Interrupts(Works):
     def test_a_handler_that_raises_again_and_again(self):
         """The second exception may come while the first one is handled."""
 
+        def timed(work, manager):
+            signal.setitimer(signal.ITIMER_REAL, 0.001)
+            work(manager)
+
         def expire(_, frame):
-            while frame and frame.f_code is not work.__code__:
+            while frame and frame.f_code is not timed.__code__:
                 frame = frame.f_back
             if frame:
+                # Each alarm sets the next, a few in all: where the machine is slow, those of an interval would ring
+                # within this handler without end.
+                signal.setitimer(signal.ITIMER_REAL, next(pauses, 0))
                 raise TimeoutError
 
         before = signal.signal(signal.SIGALRM, expire)
@@ -211,10 +218,9 @@ class Interrupts(Works):
         self.addCleanup(signal.setitimer, signal.ITIMER_REAL, 0)
         with opened() as manager:
             for number in range(200):
-                work = WORKS[number % 5]
-                signal.setitimer(signal.ITIMER_REAL, 0.001, random.uniform(0.00002, 0.0001))
+                pauses = iter([random.uniform(0.00002, 0.0001) for _ in range(10)])
                 with contextlib.suppress(TimeoutError):
-                    work(manager)
+                    timed(WORKS[number % 5], manager)
                 signal.setitimer(signal.ITIMER_REAL, 0)
                 self.assert_works(manager)
             self.assert_has_all_sessions(manager)
