@@ -89,6 +89,7 @@ fn put_rows(
     for row in rows {
         let change = insertion_into(&view, table, row)?;
         view = view.with(&change)?;
+        view.settle();
         changes.push(change)?;
     }
     Ok((view, changes))

@@ -1,4 +1,4 @@
-use Rattle.std.proofs.Common.{◌+◌, drop}
+use Rattle.std.proofs.Common.{◌+◌, ◌∙◌, drop}
 use Rattle.std.proofs.lemmas.Result.{err_from_is_err_and}
 use Rattle.value.proofs.Lists.{drop_item}
 use Rattle.txn.proofs.Inserting.{put_none, put_one}
@@ -20,4 +20,4 @@ loop-row-preserved c =
     let i = c.loop-row.row-index in
     put_one c.args.own.now c.args.table rows c.loop-row.changes.items c.loop-row.view (drop i rows) (drop (i + 1) rows) c.row-item.result
     (drop_item rows i c.row-item.result c.loop-row-test.true c.row-item.is) c.loop-row.invariant
-    c.in_ok-change.change c.in_ok-view-2.view c.push.new.self.items c.in_ok-change.ensures.made c.in_ok-view-2.ensures c.in_ok-push.ensures.items
+    c.in_ok-change.change c.settle.new.self c.push.new.self.items c.in_ok-change.ensures.made (c.settle.ensures ∙ c.in_ok-view-2.ensures) c.in_ok-push.ensures.items
