@@ -333,6 +333,47 @@ class Maker:
         tree = by_key if self.chance(0.6) else self.condition(table)
         return Statement(f' WHERE {own(tree)}', f' WHERE {theirs(tree)}')
 
+    def set_function(self, table: str, kind: str) -> Tree:
+        """A set function with values of the kind."""
+        word = self.pick(['MIN', 'MAX', 'COUNT', 'SUM', 'SUM', 'COUNT(*)'] if kind == 'INTEGER' else ['MIN', 'MAX'])
+        counted = self.pick(['INTEGER', 'TEXT']) if word == 'COUNT' else kind
+        column = self.column(table, counted)
+        if column.kind != 'column':
+            return Tree('all rows') if kind == 'INTEGER' else column
+        quantifier = self.pick(['', '', 'ALL ', 'DISTINCT '])
+        return Tree('all rows') if word == 'COUNT(*)' else Tree('set function', (word, quantifier), (column,))
+
+    def summary(self, table: str) -> Tree:
+        """An expression over set functions. A product of two could be past the range of arithmetic."""
+        one, other = (self.set_function(table, 'INTEGER') for _ in range(2))
+        return self.pick([one, one, one, self.set_function(table, 'TEXT'), signed('sum', '+', one, other),
+                          signed('sum', '-', one, self.constant('INTEGER')), joined('product', one, number(3)),
+                          joined('negation', one), self.constant(self.pick(['INTEGER', 'TEXT']))])
+
+    def derived(self, tree: Tree) -> Statement:
+        """A derived column, now and then with a name."""
+        name = self.pick(['', '', ' AS X', ' Y'])
+        return Statement(own(tree) + name, theirs(tree) + name.replace(' Y', ' AS Y'))
+
+    def select(self, table: str) -> Statement:
+        """All columns, expressions of each row, or of all rows together. The rows come in the order of their keys."""
+        key = self.key(table).name
+        mine, yours = self.where(table)
+        roll = self.rng.random()
+        if roll < 0.4:
+            return Statement(f'SELECT * FROM {table}{mine}', f'SELECT * FROM "{table}"{yours} ORDER BY "{key}"')
+        count = range(self.pick([1, 2, 3]))
+        own_name = self.pick(['', ' R', ' AS R'])
+        if roll < 0.7:
+            row = 'R' if own_name and self.chance(0.5) else ''
+            listed = [self.derived(self.expression(table, self.pick(['INTEGER', 'TEXT']), row)) for _ in count]
+            order = f' ORDER BY "{key}"'
+        else:
+            functions = [self.set_function(table, 'INTEGER'), *(self.summary(table) for _ in count)]
+            listed, order = [self.derived(function) for function in functions], ''
+        return Statement(f'SELECT {", ".join(column.own for column in listed)} FROM {table}{own_name}{mine}',
+                         f'SELECT {", ".join(column.theirs for column in listed)} FROM "{table}"{yours}{order}')
+
     def update(self, table: str) -> Statement:
         columns = [column for column in self.tables[table] if not column.is_key or self.chance(0.03)]
         if not columns:
@@ -357,8 +398,7 @@ class Maker:
         if roll < 0.68:
             return Statement(f'DELETE FROM {table}{mine}', f'DELETE FROM "{table}"{yours}')
         if roll < 0.8:
-            by_key = f'ORDER BY "{self.key(table).name}"'
-            return Statement(f'SELECT * FROM {table}{mine}', f'SELECT * FROM "{table}"{yours} {by_key}')
+            return self.select(table)
         if roll < 0.9 and self.assertions:
             names = None if self.chance(0.4) else [self.pick(self.assertions) for _ in range(self.pick([1, 1, 2]))]
             mode = self.pick(['DEFERRED', 'IMMEDIATE'])
@@ -411,7 +451,11 @@ def printed(tree: Tree, column: Callable[[str, str], str], cast: str) -> str:
         return column(*words)
     if kind in ('query', 'exists'):
         return words[0] if kind == 'query' else f'EXISTS {words[0]}'
+    if kind == 'all rows':
+        return 'COUNT(*)'
     one, *others = (printed(part, column, cast) for part in parts)
+    if kind == 'set function':
+        return f'{words[0]}({words[1]}{one})'
     if kind in ('sum', 'product', 'negation'):
         one, *others = (text if part.kind in ('sum', 'product', 'negation') else text + cast
                         for text, part in zip((one, *others), parts))

@@ -34,6 +34,11 @@ def rule(condition: str) -> str:
     return TABLES + f"CREATE ASSERTION RULE CHECK ({condition});\n"
 
 
+def script(*statements: str) -> str:
+    """A script of one transaction, over the three tables."""
+    return f"{TABLES}---\nALICE: BEGIN;\n" + "".join(f"ALICE: {statement};\n" for statement in statements)
+
+
 TEXTS = {
     "misspelt-word": "CREATE TABEL T (ID INTEGER PRIMARY KEY);\n",
     "misspelt-type": "CREATE TABLE T (ID INTEGR PRIMARY KEY);\n",
@@ -188,6 +193,44 @@ TEXTS = {
         + "---\nALICE: BEGIN;\nALICE: INSERT INTO SHIFTS VALUES (7, 8), (7, 9);\n"
         "ALICE: INSERT INTO ACCT VALUES (1, 'KIM', 5), (2, NULL, NULL);\n"
         "ALICE: INSERT INTO ACCT (ID, BAL) VALUES (1, 5), (2, 5, 5), (3, NULL);\n",
+    "select-names": script(
+        "SELECT BAL AS B, BAL - 1 LESS, 'X' MARK, BALL FROM ACCT WHERE BAAL > 0",
+        "SELECT -BAL OWES, COUNT(BAL), SUM(DISTINCT OWNR) + 1 AS N FROM ACCT AS A WHERE BAL > 0",
+        "SELECT BAL AS B, (A.BAL + 1) * 2 TWICE FROM ACCT AS A WHERE A.BAL > 0 AND A.OWNR = 'KIM'",
+        "SELECT ID, BAL AS B FROM ACCTS AS A WHERE C > 0"),
+    "select-by-the-own-name": script(
+        "SELECT A.ID, ACCT.BAL AS B FROM ACCT A",
+        "SELECT A.ID FROM ACCT AS A WHERE ACCT.BAL > 0",
+        "SELECT X.ID FROM ACCT"),
+    "select-a-column-beside-functions": script(
+        "SELECT OWNER, SUM(BAL) AS TOTAL FROM ACCT",
+        "SELECT COUNT(*), MAX(BAL) - ACCT.BAL FROM ACCT WHERE BAL > 0"),
+    "select-a-query": script(
+        "SELECT ID AS N, BAL - (SELECT MIN(A.BAL) FROM ACCT A) FROM ACCT",
+        "SELECT ID FROM ACCT WHERE BAL = (SELECT MIN(BAL) FROM ACCT)"),
+    "select-a-function-in-where": script(
+        "SELECT COUNT(*) N FROM ACCT A WHERE A.BAL > 0 AND A.BAL = MAX(A.BAL)"),
+    "select-types": script(
+        "SELECT ID, 1 - OWNER AS LESS FROM ACCT WHERE OWNER = 1",
+        "SELECT COUNT(*) AS N, -SUM(OWNER) FROM ACCT",
+        "SELECT MAX(OWNER) AS LAST FROM ACCT A WHERE A.OWNER > 7"),
+    "select-too-wide": script(
+        "SELECT BAL * BAL AS SQUARE, BAL * BAL * BAL CUBE FROM ACCT",
+        "SELECT COUNT(*) * SUM(BAL) FROM ACCT",
+        "SELECT BAL AS B FROM ACCT WHERE BAL * BAL * BAL > 0"),
+    "select-groups": script("SELECT OWNER, SUM(BAL) FROM ACCT GROUP BY OWNER"),
+    "select-having": script("SELECT SUM(BAL) FROM ACCT HAVING SUM(BAL) > 0"),
+    "select-order": script("SELECT OWNER FROM ACCT ORDER BY BAL"),
+    "select-limit": script("SELECT OWNER FROM ACCT A LIMIT 5"),
+    "select-distinct-owners": script("SELECT DISTINCT OWNER FROM ACCT"),
+    "select-a-sum-of-a-product": script("SELECT SUM(BAL * 2) FROM ACCT"),
+    "select-an-average": script("SELECT AVG(BAL) FROM ACCT"),
+    "select-two-tables": script("SELECT A.BAL, D.DOCTOR FROM ACCT A, DUTY D"),
+    "select-a-join": script("SELECT BAL FROM ACCT JOIN DUTY ON OWNER = DOCTOR"),
+    "select-all-and-more": script("SELECT *, BAL * 2 FROM ACCT"),
+    "select-null": script("SELECT ID, NULL FROM ACCT"),
+    "select-a-case": script("SELECT CASE WHEN BAL > 0 THEN 1 ELSE 0 END FROM ACCT"),
+    "select-a-reserved-name": script("SELECT COUNT(*) AS COUNT FROM ACCT"),
 }
 
 

@@ -87,6 +87,9 @@ STATEMENTS = {
     "SELECT * FROM DUTY WHERE ID = ?": "n",
     "SELECT DOCTOR, ID FROM DUTY WHERE SHIFT = ? OR ONCALL IS NULL": "n",
     "SELECT ID FROM DUTY": "",
+    "SELECT COUNT(*), SUM(ONCALL), MIN(DOCTOR) AS LEAST, MAX(ID) + ? FROM DUTY WHERE SHIFT = ?": "nn",
+    "SELECT COUNT(DISTINCT DOCTOR) SEVERAL, SUM(DISTINCT ID) * 4000 - ? FROM DUTY": "n",
+    "SELECT D.DOCTOR, ID * 1000000000000000 * 10000, -ONCALL + ? AS OFF, ? FROM DUTY AS D WHERE D.ID < ?": "ntn",
     "VERDICT COVERED": "",
     "SET CONSTRAINTS ALL DEFERRED": "",
     "SET CONSTRAINTS COVERED IMMEDIATE": "",
@@ -137,8 +140,16 @@ class Reader:
     def value(self) -> Value:
         kind = self.byte()
         by_kind: dict[int, Callable[[], Value]] = {
-            0: lambda: None, 1: self.number, 2: self.text, 3: lambda: "ALL", 4: lambda: ""}
+            0: lambda: None, 1: self.number, 2: self.text, 3: lambda: "ALL", 4: lambda: "", 5: self.large_number}
         return by_kind[kind]()
+
+    def large_number(self) -> int:
+        """A number by its decimal digits, which only one past 64 bits is."""
+        digits = self.text()
+        found = int(digits)
+        if -2**63 <= found < 2**63 or str(found) != digits:
+            raise ValueError(f"{digits} is no number past 64 bits")
+        return found
 
     def done(self) -> None:
         if self.at != len(self.data):

@@ -300,11 +300,17 @@ def rules(known: Known, folder: pathlib.Path) -> None:
 
 
 def replayed(events: str, known: Known, place: pathlib.Path) -> str:
-    """The answers to events over a table T with two rows, without the lines of the rows."""
+    """The answers to events over a table T with two rows."""
     place.mkdir(exist_ok=True)
     (place / "defs.sql").write_text(ROWS_OF_T, encoding="utf-8")
     (place / "script.sql").write_text(events, encoding="utf-8")
-    return re.sub("^  .*\n", "", printed(REPLAY, cwd=place, environment=known), flags=re.MULTILINE)
+    return printed(REPLAY, cwd=place, environment=known)
+
+
+def with_lines(answers: str) -> str:
+    """The answers with a line for each row: the rows stand behind a colon, one behind the other."""
+    return re.sub(r"^(\w+: SELECT \d+): (.*)$", lambda found: "\n  ".join([found[1], *found[2].split("; ")]), answers,
+        flags=re.MULTILINE)
 
 
 def answers_of_examples(shown: Iterable[str], known: Known, folder: pathlib.Path) -> None:
@@ -314,7 +320,7 @@ def answers_of_examples(shown: Iterable[str], known: Known, folder: pathlib.Path
     """
     reports = [path.read_text(encoding="utf-8") for path in TOP.glob("examples/*/expected.txt")]
     for events in re.findall(r"^```sql\n((?:\w+: .*; +-- .*\n)+)```$", page("docs/LANGUAGE.md"), re.MULTILINE):
-        answers = "".join(re.findall(r"-- (.+\n)", events)).replace(", and the line of the row", "")
+        answers = with_lines("".join(re.findall(r"-- (.+\n)", events)))
         if " T " in events:
             wanted("a script of docs/LANGUAGE.md", replayed(events, known, folder / "t")[: len(answers)], answers)
         elif events not in shown and not any(f"\n{answers}" in f"\n{one}" for one in reports):

@@ -4,10 +4,11 @@
     tools/layout.py            writes them
     tools/layout.py --check    writes nothing; ends with status 1 where a binding has others
 
-The source is the crate `messages`: the operations (operation_of), the statuses (status_number), and the kinds of
-replies and the number of the layout (the constants of replies.rt), of all of which contracts speak. The tables of
-Python (_numbers.py) and Rust (numbers.rs) are made whole. In bindings/c/skewguard.h each name stands with a comment of
-its own, so there the numbers are set, and a name that is missing or is none ends the run.
+The source is the crate `messages`: the operations (operation_of), the statuses (status_number), the kinds of replies
+and the number of the layout (the constants of replies.rt), and the kinds of values (those of writing.rt), of all of
+which contracts speak. The tables of Python (_numbers.py) and Rust (numbers.rs) are made whole. In
+bindings/c/skewguard.h each name stands with a comment of its own, so there the numbers are set, and a name that is
+missing or is none ends the run.
 """
 import re
 import sys
@@ -51,6 +52,7 @@ def layout() -> int:
 OPERATIONS = found(r"(?P<number>\d+) => Some\(Operation::(?P<name>\w+)\)", "operations.rt")
 STATUSES = found(r"Status::(?P<name>\w+) => (?P<number>\d+),", "responses.rt")
 KINDS = found(r"(?m)^const (?P<name>\w+): u8 = (?P<number>\d+);", "replies.rt")
+VALUE_KINDS = found(r"(?m)^(?:pub )?const (?P<name>\w+): u8 = (?P<number>\d+);", "writing.rt")
 
 # Kinds that have another name in C, whose constants share one space of names: a status is called so.
 IN_C = {"UNRESTORED": "JOURNAL_FAULT"}
@@ -64,6 +66,7 @@ def python_text() -> str:
         ("Operation", "What a call asks for.", OPERATIONS),
         ("Status", "What became of a call.", STATUSES),
         ("Kind", "What a reply is of.", KINDS),
+        ("ValueKind", "What a value is.", VALUE_KINDS),
     ):
         lines += ["", "", f"class {name}:", f'    """{about}"""', ""]
         lines += [f"    {word} = {number}" for word, number in pairs]
@@ -80,6 +83,7 @@ def rust_text() -> str:
     for name, about, kind, pairs in (
         ("status", "What became of a call.", "i32", STATUSES),
         ("kind", "What a reply is of: its first byte.", "u8", KINDS),
+        ("value_kind", "What a value is: its first byte.", "u8", VALUE_KINDS),
     ):
         lines += ["", f"/// {about}", f"pub mod {name} {{"]
         lines += [f"    pub const {word}: {kind} = {number};" for word, number in pairs] + ["}"]
@@ -108,6 +112,7 @@ def header_text() -> str:
         ("skewguard_operation", "SKEWGUARD_DO_", OPERATIONS),
         ("skewguard_status", "SKEWGUARD_", STATUSES),
         ("skewguard_kind", "SKEWGUARD_", [(IN_C.get(name, name), number) for name, number in KINDS]),
+        ("skewguard_value_kind", "SKEWGUARD_", VALUE_KINDS),
     ):
         text = with_numbers(text, enum, prefix, pairs)
     return re.sub(r"(?m)^#define SKEWGUARD_LAYOUT \d+$", f"#define SKEWGUARD_LAYOUT {layout()}", text)

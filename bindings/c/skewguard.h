@@ -47,7 +47,8 @@ extern "C" {
  * What goes in and comes out is bytes. A *number* is eight bytes, the lowest first, and a negative one in two's
  * complement; a *text* is the number of its bytes, and these; a *value* is one byte for its kind and then what it
  * holds: 0 for NULL, 1 and a number, 2 and a text. In replies 3 is ALL, the root of an assertion that is false as a
- * whole, and 4 stands where there is no value.
+ * whole, 4 stands where there is no value, and 5 and the text of its decimal digits for a number of a row that passes
+ * 64 bits.
  *
  * | operation | request | reply |
  * |---|---|---|
@@ -89,7 +90,8 @@ extern "C" {
  * | statement | number of the statement, number of its parameters |
  * | begun, committed | number of commits at the snapshot, number of the commit |
  * | inserted, updated, deleted | number of rows |
- * | rows | number of columns, the name of each as a text, number of rows, the values of each |
+ * | rows | number of columns, the name of each as a text, number of rows, the values of each. A column that AS gives |
+ * | | no name has that of the table, or of its set function (COUNT, SUM, MIN or MAX); else it is `?column?` |
  * | verdict | number: 0 false, 1 true, 2 unknown |
  * | text | the text |
  * | refused | number, SQLSTATE as a text of five bytes or none, name as a text, root or key as a value, five numbers |
@@ -257,7 +259,10 @@ typedef enum skewguard_value_kind {
     /* Only of a root: the assertion is false as a whole. */
     SKEWGUARD_ALL = 3,
     /* Only in a refusal that names no root and no key. */
-    SKEWGUARD_NO_VALUE = 4
+    SKEWGUARD_NO_VALUE = 4,
+    /* Only of a cell: a number that passes 64 bits, as a sum or a product may. Its text has the decimal digits, with a
+     * minus in front of a negative one; of at most 128 bits. */
+    SKEWGUARD_NUMERIC = 5
 } skewguard_value_kind;
 
 typedef enum skewguard_truth { SKEWGUARD_FALSE = 0, SKEWGUARD_TRUE = 1, SKEWGUARD_UNKNOWN = 2 } skewguard_truth;
@@ -268,7 +273,8 @@ typedef struct skewguard_text {
     size_t length;
 } skewguard_text;
 
-/* A cell of a row, a parameter of a statement, a key, or the root of an assertion. */
+/* A cell of a row, a parameter of a statement, a key, or the root of an assertion. A number is in `number`, and
+ * characters and a numeric are in `text`. */
 typedef struct skewguard_value {
     skewguard_value_kind kind;
     int64_t number;
@@ -516,7 +522,8 @@ static inline int skewguard_next_reply(skewguard *db);
  * where there was one; 0 at the end, and where a row has more values than there is room for. */
 static inline int skewguard_next_row(skewguard *db, skewguard_value *cells, size_t room);
 
-/* The name of a column of a reply of rows, by its place from 0; empty where there is none. */
+/* The name of a column of a reply of rows, by its place from 0; empty where there is none. It is the one that AS gives;
+ * else that of the table's column, or COUNT, SUM, MIN or MAX of a set function; else `?column?`. */
 static inline skewguard_text skewguard_column(const skewguard *db, uint64_t place);
 
 /* ---- what is said of a status and of a fault */
@@ -756,6 +763,8 @@ static inline skewguard_value skewguard_read_value(skewguard_reader *reader)
     } else {
         skewguard_value value = skewguard_null();
         value.kind = (skewguard_value_kind)kind;
+        if (kind == SKEWGUARD_NUMERIC)
+            value.text = skewguard_read_text(reader);
         return value;
     }
 }
@@ -991,6 +1000,7 @@ static inline int skewguard_is_parameter(const skewguard_value *value)
         return value->text.bytes || !value->text.length;
     case SKEWGUARD_ALL:
     case SKEWGUARD_NO_VALUE:
+    case SKEWGUARD_NUMERIC:
         break;
     }
     return 0;

@@ -544,6 +544,51 @@ static void many_rows(void)
     skewguard_close(&db);
 }
 
+static int is_column(const skewguard *db, uint64_t place, const char *name)
+{
+    return is_text(skewguard_column(db, place), name);
+}
+
+/* Set functions and expressions: what their columns are called, and numbers that pass 64 bits. */
+static void derived_columns(void)
+{
+    skewguard db;
+    uint64_t bob, leave;
+    skewguard_value cells[4];
+    const char *wide = "SELECT SHIFT * 9223 + 372036854775807, SHIFT * 9223 + 372036854775808, SHIFT * SHIFT,"
+                       " SHIFT * 9223 - 372036854775808 FROM DUTY WHERE ID IN (3, 4)";
+
+    open_clinic(&db);
+    open_session(&db, "BOB", &bob);
+    skewguard_begin(&db, bob);
+    EXPECT(execute(&db, bob, "SELECT COUNT(*), MAX(DOCTOR) LAST_NAME, SUM(ID), MIN(ID) + 1 FROM DUTY")
+        == SKEWGUARD_DONE);
+    EXPECT(db.reply.kind == SKEWGUARD_ROWS && db.reply.rows == 1 && db.reply.columns == 4);
+    EXPECT(is_column(&db, 0, "COUNT") && is_column(&db, 1, "LAST_NAME"));
+    EXPECT(is_column(&db, 2, "SUM") && is_column(&db, 3, "?column?"));
+    EXPECT(skewguard_next_row(&db, cells, 4) && is_number(cells[0], 2) && is_number(cells[2], 3));
+    EXPECT(is_text(cells[1].text, "O'HARA") && is_number(cells[3], 2) && !skewguard_next_row(&db, cells, 4));
+    EXPECT(execute(&db, bob, "SELECT D.DOCTOR, ID AS NUMBER_OF FROM DUTY D WHERE D.ID = 2") == SKEWGUARD_DONE);
+    EXPECT(is_column(&db, 0, "DOCTOR") && is_column(&db, 1, "NUMBER_OF") && db.reply.rows == 1);
+
+    EXPECT(execute(&db, bob, "INSERT INTO DUTY (ID, SHIFT) VALUES (3, 1000000000000000), (4, -1000000000000000)")
+        == SKEWGUARD_DONE);
+    EXPECT(execute(&db, bob, "INSERT INTO DUTY (ID, SHIFT) VALUES (5, -1000000000000000), (6, -1000000000000000)")
+        == SKEWGUARD_DONE);
+    EXPECT(execute(&db, bob, wide) == SKEWGUARD_DONE && skewguard_next_row(&db, cells, 4));
+    EXPECT(is_number(cells[0], INT64_MAX) && is_numeric(cells[1], "9223372036854775808"));
+    EXPECT(is_numeric(cells[2], "1000000000000000000000000000000") && is_number(cells[3], 9222627963145224192));
+    EXPECT(skewguard_next_row(&db, cells, 4) && is_number(cells[3], INT64_MIN) && !skewguard_next_row(&db, cells, 4));
+    EXPECT(execute(&db, bob, "SELECT SUM(SHIFT) * 4000 FROM DUTY WHERE ID > 3") == SKEWGUARD_DONE);
+    EXPECT(skewguard_next_row(&db, cells, 1) && is_numeric(cells[0], "-12000000000000000000"));
+    EXPECT(prepare(&db, "DELETE FROM DUTY WHERE SHIFT = ?", &leave) == SKEWGUARD_DONE);
+    EXPECT(skewguard_run(&db, bob, leave, cells, 1) == SKEWGUARD_BAD_REQUEST);
+    EXPECT(execute(&db, bob, "SELECT SUM(SHIFT) * 4000 FROM DUTY WHERE ID > 3") == SKEWGUARD_DONE);
+    EXPECT(skewguard_line(&db) == SKEWGUARD_DONE);
+    EXPECT(is_text(db.reply.text, "BOB: SELECT 1\n  -12000000000000000000\n"));
+    skewguard_close(&db);
+}
+
 /* Whole transactions in one call each. */
 static void transactions(void)
 {
@@ -604,6 +649,7 @@ int main(void)
     drawings();
     semicolons();
     many_rows();
+    derived_columns();
     transactions();
     sessions();
     session_names();

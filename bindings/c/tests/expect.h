@@ -44,6 +44,11 @@ static inline int is_number(skewguard_value value, int64_t number)
     return value.kind == SKEWGUARD_NUMBER && value.number == number;
 }
 
+static inline int is_numeric(skewguard_value value, const char *digits)
+{
+    return value.kind == SKEWGUARD_NUMERIC && is_text(value.text, digits);
+}
+
 static inline skewguard_status execute(skewguard *db, uint64_t session, const char *text)
 {
     return skewguard_execute(db, session, text, strlen(text));

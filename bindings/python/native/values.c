@@ -253,6 +253,18 @@ static int read_columns(skewguard_reader *reader, uint64_t *width, Columns *colu
     return 1;
 }
 
+enum { MOST_DIGITS = 39 }; /* of a number of 128 bits */
+
+/* A number that passes 64 bits, of its decimal digits. */
+static PyObject *large_number_of(skewguard_text digits)
+{
+    char text[1 + MOST_DIGITS + 1];
+    size_t length = digits.length < sizeof text ? digits.length : sizeof text - 1;
+    memcpy(text, digits.bytes, length);
+    text[length] = 0;
+    return PyLong_FromString(text, NULL, 10);
+}
+
 static PyObject *value_of(skewguard_reader *reader)
 {
     skewguard_value value = skewguard_read_value(reader);
@@ -260,6 +272,8 @@ static PyObject *value_of(skewguard_reader *reader)
         return PyLong_FromLongLong(value.number);
     if (value.kind == SKEWGUARD_CHARACTERS)
         return PyUnicode_DecodeUTF8(value.text.bytes, (Py_ssize_t)value.text.length, "replace");
+    if (value.kind == SKEWGUARD_NUMERIC)
+        return large_number_of(value.text);
     Py_INCREF(Py_None);
     return Py_None;
 }

@@ -105,6 +105,39 @@ class Calls(unittest.TestCase):
             self.assertEqual((row.COUNT2, row.INDEX, row.KEYS, row.COLUMNS), (1, 2, 3, 4))
             self.assertEqual((row.index(3), row.count(3), len(row.keys()), row.columns[1]), (2, 1, 4, "INDEX"))
 
+    def test_derived_columns_have_names(self):
+        with self.manager.transaction() as t:
+            self.assertEqual(t.execute("SELECT COUNT(*) FROM DUTY").scalar(), 2)
+            found = t.execute("SELECT COUNT(*), MAX(DOCTOR) AS LAST_NAME, SUM(ID), MIN(ID) + ? FROM DUTY", [1])
+            self.assertEqual((found.columns, found.count), (("COUNT", "LAST_NAME", "SUM", "?column?"), 1))
+            row = found.first()
+            self.assertEqual((row, row.COUNT, row.SUM, row["last_name"]), ((2, "O'HARA", 3, 2), 2, 3, "O'HARA"))
+            self.assertEqual((row["?column?"], pickle.loads(pickle.dumps(row))["?column?"]), (2, 2))
+            named = t.execute("SELECT D.DOCTOR, ID AS PLACE FROM DUTY AS D WHERE D.ID = 2")
+            self.assertEqual((named.columns, list(named)), (("DOCTOR", "PLACE"), [("O'HARA", 2)]))
+
+    def test_numbers_past_64_bits(self):
+        wide = (
+            "SELECT ONCALL * 9223 + 372036854775807, ONCALL * 9223 + 372036854775808, ONCALL * ONCALL,"
+            " ONCALL * 9223 - 372036854775808, ONCALL * 9223 - 372036854775809 FROM DUTY WHERE ID IN (3, 4)"
+        )
+        with self.manager.transaction() as t:
+            t.execute("INSERT INTO DUTY VALUES (3, 'LEE', ?), (4, 'EVE', ?)", [10**15, -(10**15)])
+            t.execute("INSERT INTO DUTY VALUES (5, 'ANN', ?), (6, 'BOB', ?)", [10**15, 10**15])
+            one, other = t.execute(wide)
+            self.assertEqual(one[:3], (2**63 - 1, 2**63, 10**30))
+            self.assertEqual(other[2:], (10**30, -(2**63), -(2**63) - 1))
+            total = t.execute("SELECT SUM(ONCALL) * 4000 FROM DUTY WHERE ID IN (3, 5, 6)")
+            self.assertEqual(total.scalar(), 12 * 10**18)
+            # (of several in one call, rows are skipped until they are asked for)
+            t.execute("DELETE FROM DUTY WHERE ID > 2")
+        add = "INSERT INTO DUTY VALUES (?, ?, ?)"
+        _, answers = self.manager.run_transaction(
+            [(add, [3, "LEE", 10**15]), ("SELECT ONCALL * ONCALL FROM DUTY",), ("SELECT COUNT(*) FROM DUTY",)]
+        )
+        self.assertEqual([answer.columns for answer in answers[1:]], [("?column?",), ("COUNT",)])
+        self.assertEqual((list(answers[1]), answers[2].scalar()), ([(1,), (0,), (10**30,)], 3))
+
     def test_a_result_is_true_where_there_are_rows(self):
         with self.manager.transaction() as t:
             truths = {

@@ -350,6 +350,11 @@ class Connections(unittest.TestCase):
         self.assertEqual([len(column) for column in cursor.description], [7] * 3)
         cursor.execute("SELECT AGE FROM BARFLYS WHERE NAME = 'B'")
         self.assertEqual(cursor.description[0][:2], ("AGE", None))
+        cursor.execute("SELECT COUNT(*), SUM(AGE), MAX(NAME) AS LAST_NAME, MIN(AGE) + 1 FROM BARFLYS")
+        found = [column[:2] for column in cursor.description]
+        numbers = [("COUNT", dbapi.NUMBER), ("SUM", dbapi.NUMBER), ("?column?", dbapi.NUMBER)]
+        self.assertEqual(found, [*numbers[:2], ("LAST_NAME", dbapi.STRING), numbers[2]])
+        self.assertEqual(cursor.fetchall(), [(1, 7, "A", 8)])
 
     def test_rowcount(self):
         cursor = self.connection.cursor()

@@ -33,10 +33,12 @@ class ExplanationTest(unittest.TestCase):
 
     def test_syntax(self):
         error = self.refused("SELECT *\nFROM ACCOUNT\nORDER BY BAL")
-        self.assertEqual((error.number, error.line, error.column), (2, 3, 1))
-        self.assertEqual(str(error).splitlines()[0], "syntax error at line 3, column 1")
-        self.assertEqual(str(error).splitlines()[2:6], ["  --> statement:3:1", "   |", " 3 | ORDER BY BAL", "   | ^^^^^"])
-        self.assertIn("Here may stand", error.explanation)
+        # (ORDER may be the name that the table goes by)
+        self.assertEqual((error.number, error.line, error.column), (2, 3, 7))
+        self.assertEqual(str(error).splitlines()[0], "syntax error at line 3, column 7")
+        shown = ["  --> statement:3:7", "   |", " 3 | ORDER BY BAL", "   |       ^^"]
+        self.assertEqual(str(error).splitlines()[2:6], shown)
+        self.assertIn("There is no ORDER BY.", error.explanation)
 
     def test_second_statement(self):
         error = self.refused("DELETE FROM ACCOUNT; DELETE FROM ACCOUNT;")

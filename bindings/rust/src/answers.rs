@@ -97,7 +97,8 @@ impl Rows {
         Rows { columns, rows }
     }
 
-    /// The names of the columns.
+    /// The names of the columns: the one that AS gives; else that of the table's column, or `COUNT`, `SUM`, `MIN` or
+    /// `MAX` of a set function; else `?column?`.
     pub fn columns(&self) -> &[String] {
         &self.columns
     }

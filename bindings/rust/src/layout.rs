@@ -1,7 +1,7 @@
 //! The bytes of requests and replies, as `skewguard.h` lays them out.
 
 use crate::errors::{Error, Fault, JournalFault, Refusal, Root};
-use crate::numbers::kind;
+use crate::numbers::{kind, value_kind};
 use crate::values::Value;
 
 pub fn add_number(request: &mut Vec<u8>, number: u64) {
@@ -15,17 +15,21 @@ pub fn add_text(request: &mut Vec<u8>, text: &str) {
 
 pub fn add_value(request: &mut Vec<u8>, value: &Value) {
     match value {
-        Value::Null => request.push(0),
-        Value::Int(number) => {
-            request.push(1);
-            request.extend_from_slice(&number.to_le_bytes());
-        }
+        Value::Null => request.push(value_kind::NULL),
+        Value::Int(number) => add_number_value(request, *number),
+        // (it is past the range of parameters in either case, and the library says so)
+        Value::Numeric(number) => add_number_value(request, i64::try_from(*number).unwrap_or(i64::MAX)),
         Value::Text(text) => add_text_value(request, text),
     }
 }
 
+fn add_number_value(request: &mut Vec<u8>, number: i64) {
+    request.push(value_kind::NUMBER);
+    request.extend_from_slice(&number.to_le_bytes());
+}
+
 pub fn add_text_value(request: &mut Vec<u8>, text: &str) {
-    request.push(2);
+    request.push(value_kind::CHARACTERS);
     add_text(request, text);
 }
 
@@ -78,10 +82,12 @@ impl<'a> Reader<'a> {
     /// A root or a key; none where there is none.
     fn root(&mut self) -> Option<Root> {
         match self.take(1) {
-            [0] => Some(Root::Of(Value::Null)),
-            [1] => Some(Root::Of(Value::Int(self.number() as i64))),
-            [2] => Some(Root::Of(Value::Text(self.text()))),
-            [3] => Some(Root::All),
+            [value_kind::NULL] => Some(Root::Of(Value::Null)),
+            [value_kind::NUMBER] => Some(Root::Of(Value::Int(self.number() as i64))),
+            [value_kind::CHARACTERS] => Some(Root::Of(Value::Text(self.text()))),
+            [value_kind::ALL] => Some(Root::All),
+            // (a number of the library has 128 bits at most)
+            [value_kind::NUMERIC] => self.text().parse().ok().map(|number| Root::Of(Value::Numeric(number))),
             _ => None,
         }
     }

@@ -847,7 +847,7 @@ fn error(status: i32, reply: &[u8], text: &str) -> Error {
 fn unfit(parameter: u64, values: &[Value]) -> Error {
     let value = usize::try_from(parameter).ok().and_then(|place| values.get(place.wrapping_sub(1)));
     match value {
-        Some(Value::Int(_)) => Error::NumberOutOfRange { parameter },
+        Some(Value::Int(_) | Value::Numeric(_)) => Error::NumberOutOfRange { parameter },
         Some(Value::Text(text)) => {
             let odd = text.chars().position(|it| it.is_ascii_control());
             Error::TextNotPlain { parameter, character: odd.map_or(0, |place| place + 1) }

@@ -71,3 +71,13 @@ pub mod kind {
     pub const UNRESTORED: u8 = 18;
     pub const IMAGE: u8 = 19;
 }
+
+/// What a value is: its first byte.
+pub mod value_kind {
+    pub const NULL: u8 = 0;
+    pub const NUMBER: u8 = 1;
+    pub const CHARACTERS: u8 = 2;
+    pub const ALL: u8 = 3;
+    pub const NO_VALUE: u8 = 4;
+    pub const NUMERIC: u8 = 5;
+}

@@ -1,23 +1,35 @@
 //! What stands in a table.
 
+use std::cmp::Ordering;
 use std::fmt;
 
-/// A value of a row, or of a parameter.
-#[derive(Clone, Debug, PartialEq, Eq, PartialOrd, Ord, Hash)]
+/// A value of a row, or of a parameter. NULL comes before all numbers, and these before all texts.
+#[derive(Clone, Debug, PartialEq, Eq, Hash)]
 pub enum Value {
     /// NULL.
     Null,
-    /// A whole number, from -10^15 to 10^15.
+    /// A whole number: in tables and of parameters from -10^15 to 10^15, of a SELECT any of 64 bits.
     Int(i64),
+    /// A whole number that passes 64 bits, as a sum or a product that a SELECT lists may. No parameter takes one.
+    Numeric(i128),
     /// A text, without control characters of ASCII.
     Text(String),
 }
 
 impl Value {
-    /// The number, if it is one.
+    /// The number, if it is one of 64 bits.
     pub fn as_int(&self) -> Option<i64> {
         match self {
             Value::Int(number) => Some(*number),
+            _ => None,
+        }
+    }
+
+    /// The number, if it is one of whatever size.
+    pub fn as_i128(&self) -> Option<i128> {
+        match self {
+            Value::Int(number) => Some((*number).into()),
+            Value::Numeric(number) => Some(*number),
             _ => None,
         }
     }
@@ -31,12 +43,32 @@ impl Value {
     }
 }
 
+impl Ord for Value {
+    fn cmp(&self, other: &Value) -> Ordering {
+        match (self.as_text(), other.as_text()) {
+            (None, None) => {
+                // (a number that is of both kinds is two values)
+                let is_wide = |value: &Value| matches!(value, Value::Numeric(_));
+                self.as_i128().cmp(&other.as_i128()).then(is_wide(self).cmp(&is_wide(other)))
+            }
+            (text, other) => text.cmp(&other),
+        }
+    }
+}
+
+impl PartialOrd for Value {
+    fn partial_cmp(&self, other: &Value) -> Option<Ordering> {
+        Some(self.cmp(other))
+    }
+}
+
 /// As the report writes it: `NULL`, `7`, `'O''HARA'`.
 impl fmt::Display for Value {
     fn fmt(&self, to: &mut fmt::Formatter<'_>) -> fmt::Result {
         match self {
             Value::Null => to.write_str("NULL"),
             Value::Int(number) => number.fmt(to),
+            Value::Numeric(number) => number.fmt(to),
             Value::Text(text) => write!(to, "'{}'", text.replace('\'', "''")),
         }
     }

@@ -90,6 +90,43 @@ fn faults_of_rows() {
 }
 
 #[test]
+fn derived_columns_have_names() {
+    let manager = opened();
+    let mut t = manager.begin().unwrap();
+    let asked = "SELECT COUNT(*), MAX(DOCTOR) AS LAST_NAME, SUM(ID), MIN(ID) + ? FROM DUTY";
+    let found = t.execute(asked, &values![1]).unwrap().into_rows().unwrap();
+    assert_eq!(found.columns(), ["COUNT", "LAST_NAME", "SUM", "?column?"]);
+    assert_eq!((found.len(), &found[0]), (1, &values![2, "O'HARA", 3, 2][..]));
+    assert_eq!((found.get(0, "count"), found.get(0, "?column?")), (Some(&2.into()), Some(&2.into())));
+    let found = t.execute("SELECT D.DOCTOR, ID AS PLACE FROM DUTY AS D WHERE D.ID = 2", &[]).unwrap();
+    assert_eq!(found.rows().unwrap().columns(), ["DOCTOR", "PLACE"]);
+}
+
+#[test]
+fn numbers_past_64_bits() {
+    let manager = opened();
+    let mut t = manager.begin().unwrap();
+    t.execute(INSERT, &values![3, "LEE", 10i64.pow(15)]).unwrap();
+    t.execute(INSERT, &values![4, "EVE", -10i64.pow(15)]).unwrap();
+    t.execute(INSERT, &values![5, "ANN", 10i64.pow(15)]).unwrap();
+    t.execute(INSERT, &values![6, "BOB", 10i64.pow(15)]).unwrap();
+    let asked = "SELECT ONCALL * 9223 + 372036854775807, ONCALL * 9223 + 372036854775808, ONCALL * ONCALL,
+                 ONCALL * 9223 - 372036854775808, ONCALL * 9223 - 372036854775809 FROM DUTY WHERE ID IN (3, 4)";
+    let found = t.execute(asked, &[]).unwrap().into_rows().unwrap();
+    assert_eq!(found[0][..2], [Value::Int(i64::MAX), Value::Numeric(i128::from(i64::MAX) + 1)]);
+    assert_eq!(found[0][2], Value::Numeric(10i128.pow(30)));
+    assert_eq!(found[1][3..], [Value::Int(i64::MIN), Value::Numeric(i128::from(i64::MIN) - 1)]);
+    assert_eq!((found[0][2].as_int(), found[0][2].as_i128()), (None, Some(10i128.pow(30))));
+    assert_eq!(found[1][4].to_string(), "-9223372036854775809");
+    assert!(Value::Null < found[1][4] && found[1][4] < found[1][3] && found[0][0] < found[0][1]);
+    assert!(found[0][2] < Value::from("") && Value::Int(5).as_i128() == Some(5));
+    let sum = t.execute("SELECT SUM(ONCALL) * 4000 FROM DUTY WHERE ID IN (3, 5, 6)", &[]).unwrap();
+    assert_eq!(sum.rows().unwrap()[0], [Value::Numeric(12 * 10i128.pow(18))]);
+    let given = t.execute("DELETE FROM DUTY WHERE ID = ?", &[Value::Numeric(10i128.pow(30))]);
+    assert_eq!(given, Err(Error::NumberOutOfRange { parameter: 1 }));
+}
+
+#[test]
 fn several_rows_in_one_insert() {
     let manager = opened();
     let mut t = manager.begin().unwrap();

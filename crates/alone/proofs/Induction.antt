@@ -27,7 +27,7 @@ use Rattle.alone.specs.declared.statements.ResolvedStatement.{ResolvedStatement}
 use Rattle.alone.specs.declared.statements.ResolvedStatement.TheVariants.{Refused as Refuse, Insert, Update, Delete, Select, SetModes, Verdict}
 use Rattle.alone.specs.declared.answers.Reply.{Reply}
 use Rattle.alone.specs.declared.answers.Reply.TheVariants.{Rows, ModesSet, Verdict as Truthful, Inserted, Updated}
-use Rattle.alone.specs.Statements.{Effect, columns_of, place_in, places_in, found_rows, inserted_at, insertion, insertions, insert_effect, update_fault, renewal, update_effect, delete_effect, sets_key, selected_rows}
+use Rattle.alone.specs.Statements.{Effect, columns_of, place_in, places_in, found_rows, inserted_at, insertion, insertions, insert_effect, update_fault, renewal, update_effect, delete_effect, sets_key, listed_rows}
 use Rattle.assertion.specs.Declarations.{Declared, layouts_in}
 use Rattle.alone.specs.Modes.{Immediates, is_immediate, is_named, modes_with, assertion_of, initial_modes, immediate_ones, deferred_ones, named_ones}
 use Rattle.alone.specs.Alone.{Standing, Step, refused_step, unless_violated, step_of_effect, verdict_step, modes_step, unless_key, key_name, step_alone, Run, ran, run_on, transaction, transaction_keys, IsSound}
@@ -365,7 +365,7 @@ module _ (declared : Declared) (s o : State) (sound : IsSound declared s) (sound
     statement_same (Select x) under =
         let read : LockKey = filter_key x.table (key_of x.table lays) x.filter in
         record {
-          reply = ap (λ rows. Ok (Rows (selected_rows x.columns rows))) (found_same lays u v t.fit.ordered t.fit'.ordered x.table x.filter (alike_under lays s o u v t.alike read (under read (in_head read []))));
+          reply = ap (λ rows. Ok (Rows (listed_rows x.listing rows))) (found_same lays u v t.fit.ordered t.fit'.ordered x.table x.filter (alike_under lays s o u v t.alike read (under read (in_head read []))));
           reads = refl;
           after = (refl, t);
         }

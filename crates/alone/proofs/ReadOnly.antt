@@ -17,7 +17,7 @@ use Rattle.alone.specs.declared.answers.Reply.{Reply}
 use Rattle.alone.specs.declared.answers.Reply.TheVariants.{ModesSet}
 use Rattle.syntax.specs.declared.statements.Statement.{Statement as Written}
 use Rattle.syntax.specs.declared.statements.Statement.TheVariants as written
-use Rattle.assertcheck.specs.Statements.{select_of}
+use Rattle.assertcheck.specs.Selects.{select_of}
 use Rattle.alone.specs.States.{is_real, change_between, keys_of_both, table_changes, net_change, row_in}
 use Rattle.alone.specs.Checks.{violation, checks_read}
 use Rattle.alone.specs.Alone.{Standing, unless_violated, modes_step, verdict_step, step_alone, ran, transaction}
@@ -89,7 +89,7 @@ pub resolved_reads : (declared : Declared) (statement : Written) → is_read_onl
 resolved_reads declared (written.Insert insert) = refl
 resolved_reads declared (written.Update table sets condition) = refl
 resolved_reads declared (written.Delete table condition) = refl
-resolved_reads declared (written.Select columns table condition) = made_reads Select (select_of declared.tables columns table condition) (λ s. refl)
+resolved_reads declared (written.Select select) = made_reads Select (select_of declared.tables select) (λ s. refl)
 resolved_reads declared (written.SetConstraints assertions mode) = made_reads (λ names. SetModes names mode) (set_names declared.assertions assertions) (λ names. refl)
 resolved_reads declared (written.Verdict name) = refl
 

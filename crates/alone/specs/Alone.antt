@@ -18,7 +18,7 @@ use Rattle.alone.specs.declared.statements.ResolvedStatement.{ResolvedStatement}
 use Rattle.alone.specs.declared.statements.ResolvedStatement.TheVariants.{Refused as Refuse, Insert, Update, Delete, Select, SetModes, Verdict}
 use Rattle.alone.specs.declared.answers.Reply.{Reply}
 use Rattle.alone.specs.declared.answers.Reply.TheVariants.{Rows, ModesSet, Verdict as Truthful}
-use Rattle.alone.specs.Statements.{Effect, columns_of, no_column, places_in, found_rows, insert_effect, update_effect, delete_effect, sets_key, selected_rows}
+use Rattle.alone.specs.Statements.{Effect, columns_of, no_column, places_in, found_rows, insert_effect, update_effect, delete_effect, sets_key, listed_rows}
 
 -- a transaction between two statements
 pub record Standing : Type 0 where
@@ -98,7 +98,7 @@ step_alone declared start now (Delete d) =
     step_of_effect declared now (filter_key d.table (key_of d.table (layouts_in declared)) d.filter ∷ [])
     (Ok (delete_effect d.table (key_of d.table (layouts_in declared)) (found_rows now.view d.table d.filter)))
 step_alone declared start now (Select s) = record {
-  reply = Ok (Rows (selected_rows s.columns (found_rows now.view s.table s.filter)));
+  reply = Ok (Rows (listed_rows s.listing (found_rows now.view s.table s.filter)));
   after = now;
   reads = filter_key s.table (key_of s.table (layouts_in declared)) s.filter ∷ [];
 }

@@ -2,6 +2,7 @@ pub mod States
 pub mod Reads
 pub mod Checks
 pub mod Statements
+pub mod Results
 pub mod Resolve
 pub mod Alone
 pub mod Modes

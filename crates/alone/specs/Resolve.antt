@@ -4,7 +4,8 @@ use Rattle.value.specs.declared.refusals.Refusal.{Refusal}
 use Rattle.value.specs.declared.refusals.Refusal.TheVariants.{ReadOnlyTransaction}
 use Rattle.syntax.specs.declared.statements.Statement.{Statement as Written}
 use Rattle.syntax.specs.declared.statements.Statement.TheVariants as written
-use Rattle.assertcheck.specs.Statements.{insert_of, delete_of, select_of}
+use Rattle.assertcheck.specs.Selects.{select_of}
+use Rattle.assertcheck.specs.Statements.{insert_of, delete_of}
 use Rattle.assertcheck.specs.Updates.{update_of}
 use Rattle.assertion.specs.Declarations.{Declared}
 use Rattle.alone.specs.declared.statements.ResolvedStatement.{ResolvedStatement}
@@ -30,8 +31,8 @@ resolution_of declared read_only (written.Update table sets condition) =
     unless_read_only read_only (statement_or_refusal Update (update_of declared.tables table sets condition))
 resolution_of declared read_only (written.Delete table condition) =
     unless_read_only read_only (statement_or_refusal Delete (delete_of declared.tables table condition))
-resolution_of declared read_only (written.Select columns table condition) =
-    statement_or_refusal Select (select_of declared.tables columns table condition)
+resolution_of declared read_only (written.Select select) =
+    statement_or_refusal Select (select_of declared.tables select)
 resolution_of declared read_only (written.SetConstraints assertions mode) =
     statement_or_refusal (λ names. SetModes names mode) (set_names declared.assertions assertions)
 resolution_of declared read_only (written.Verdict name) = Verdict name

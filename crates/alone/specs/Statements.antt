@@ -10,12 +10,16 @@ use Rattle.value.specs.declared.refusals.Refusal.TheVariants.{DuplicateKey, Type
 use Rattle.table.specs.declared.schemas.Column.{Column}
 use Rattle.table.specs.declared.rows.Change.{Change}
 use Rattle.table.specs.Rows.{RowValues, Layout, Tables, value_in, layouts_of, names_of, key_of}
+use Rattle.table.specs.Aggregates.{aggregate}
 use Rattle.table.specs.Faults.{fault_in, is_typed, row_refusal}
 use Rattle.table.specs.declared.exprs.Expr.{Expr}
 use Rattle.table.specs.declared.conds.Cond.{Cond}
 use Rattle.table.specs.Eval.{answer}
 use Rattle.assertion.specs.Meaning.{State, rows_of, filtered_rows}
+use Rattle.form_check.specs.declared.summaries.Summary.{Summary}
 use Rattle.assertcheck.specs.declared.inserts.NewRows.{NewRows}
+use Rattle.assertcheck.specs.declared.selects.Listing.{Listing}
+use Rattle.assertcheck.specs.declared.selects.Listing.TheVariants.{EachRow, AllRows}
 use Rattle.assertcheck.specs.declared.updates.Setting.{Setting}
 use Rattle.alone.specs.declared.answers.Reply.{Reply}
 use Rattle.alone.specs.declared.answers.Reply.TheVariants.{Inserted, Updated, Deleted}
@@ -124,13 +128,14 @@ update_effect columns table key sets rows =
 abbrev pub sets_key : ℕ → List Setting → Bool
 sets_key key sets = list_any (λ setting. setting.column == key) sets
 
--- what a SELECT lists of some rows
-abbrev pub selected_values : List ℕ → RowValues → RowValues
-selected_values columns row = map (λ column. value_in column row) columns
+-- what an expression over set functions gives of some rows together: the value of each stands in its slot (6.5)
+abbrev pub summary_value : List RowValues → Summary → Value
+summary_value rows summary = answer [] (map (λ a. aggregate a rows) summary.aggregates) summary.value
 
--- what a SELECT lists of some rows, row by row
-abbrev pub selected_rows : List ℕ → List RowValues → List RowValues
-selected_rows columns rows = map (selected_values columns) rows
+-- what a SELECT lists of the rows that its condition keeps: values of each row, or one row of all of them (7.9)
+abbrev pub listed_rows : Listing → List RowValues → List RowValues
+listed_rows (EachRow values) rows = map (λ row. map (answer row []) values) rows
+listed_rows (AllRows summaries) rows = map (summary_value rows) summaries ∷ []
 
 -- the rows of a table that a condition keeps, in key order
 abbrev pub found_rows : State → ℕ → Cond → List RowValues

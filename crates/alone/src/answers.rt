@@ -1,7 +1,7 @@
 //! Replies to statements, and answers to events.
 
+use crate::results::ResultRow;
 use sqlite_items::Items;
-use table::Row;
 use value::{Refusal, Text, Truth};
 
 /// What a statement did.
@@ -13,8 +13,9 @@ pub enum Reply {
     Updated(u64),
     /// DELETE: so many rows were taken out.
     Deleted(u64),
-    /// SELECT: the listed values of each row that its condition kept, in key order.
-    Rows(Items<Row>),
+    /// SELECT: what it lists of each row that its condition kept, in key order; or, with set functions, one row of all
+    /// of them together.
+    Rows(Items<ResultRow>),
     /// SET CONSTRAINTS: the modes were set.
     ModesSet,
     /// VERDICT: the truth of the assertion on the transaction's own tables.

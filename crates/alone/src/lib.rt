@@ -66,6 +66,7 @@ mod laws;
 mod modes;
 mod names;
 mod records;
+mod results;
 mod statements;
 
 pub use answers::{Answer, RefusedCommit, Reply};
@@ -81,4 +82,5 @@ pub use laws::{
 pub use modes::Modes;
 pub use names::settable_names;
 pub use records::{Record, reach_of};
+pub use results::{ResultRow, ResultValue};
 pub use statements::ResolvedStatement;

@@ -4,3 +4,5 @@ pub mod ExprTypes
 mod Widths
 mod Refused
 mod KnownNames
+mod SelectedNames
+mod Lists

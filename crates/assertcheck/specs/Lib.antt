@@ -5,3 +5,4 @@ pub mod Assertions
 pub mod Conditions
 pub mod Statements
 pub mod Updates
+pub mod Selects

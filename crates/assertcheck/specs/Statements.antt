@@ -10,13 +10,10 @@ use Rattle.table.specs.Rows.{RowValues, Tables, column_of}
 use Rattle.table.specs.Faults.{are_typed}
 use Rattle.syntax.specs.declared.trees.Condition.{Condition}
 use Rattle.syntax.specs.declared.statements.Insert.{Insert}
-use Rattle.syntax.specs.declared.statements.Which.{Which}
-use Rattle.syntax.specs.declared.statements.Which.TheVariants.{All, Names}
 use Rattle.value.specs.Results.{and_then, each, result_of_name, if_holds}
 use Rattle.form_check.specs.Queries.{Source}
 use Rattle.assertcheck.specs.declared.deletes.Delete.{Delete}
 use Rattle.assertcheck.specs.declared.inserts.NewRows.{NewRows}
-use Rattle.assertcheck.specs.declared.selects.Select.{Select}
 use Rattle.assertcheck.specs.Conditions.{target_of, filter_of}
 
 -- DELETE
@@ -93,16 +90,3 @@ insert_of tables insert =
     and_then (target_of tables insert.table) (λ target.
     and_then (listed_places target.scope.layout.columns insert.columns) (λ places.
     typed_rows target places insert.rows))
-
--- the columns that a SELECT lists, from the left, each as often as it is listed; * is all of them in the table's order
-abbrev pub selected_places : List Column → Which → Result (List ℕ) Refusal
-selected_places columns All = Ok (places_from 0 columns)
-selected_places columns (Names names) = each (named_column columns) names
-
--- SELECT: the table, the listed columns, and then WHERE as a whole
-abbrev pub select_of : Tables → Which → List ℕ → Option Condition → Result Select Refusal
-select_of tables columns name condition =
-    and_then (target_of tables name) (λ target.
-    and_then (selected_places target.scope.layout.columns columns) (λ places.
-    and_then (filter_of tables target.scope condition) (λ restriction.
-    Ok (record { table = target.table; columns = places; filter = restriction }))))

@@ -55,7 +55,7 @@ fn query_kinds<G>(alloc: Global, queries: &[Query<G>]) -> Result<Vec<SlotKind>, 
 }
 
 /// The kinds of the slots that set functions fill.
-fn aggregate_kinds(alloc: Global, aggregates: &[Aggregate]) -> Result<Vec<SlotKind>, AllocError>
+pub fn aggregate_kinds(alloc: Global, aggregates: &[Aggregate]) -> Result<Vec<SlotKind>, AllocError>
     ensures { IfOk result (λ kinds. kinds.items ≡ map kind_of_aggregate aggregates.now) }
 {
     let mut kinds = Vec::new(alloc);

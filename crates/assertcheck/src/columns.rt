@@ -3,7 +3,6 @@
 ghost use Rattle.std.specs.Prelude.{◌≡◌, ◌≢◌, ◌==◌, [], IfOk, IfErr, Ok, Err};
 ghost use Rattle.std.specs.List.{list_any};
 ghost use Rattle.value.specs.declared.refusals.Refusal.TheVariants.{NoMemory};
-ghost use Rattle.value.specs.Results.{each};
 ghost use Rattle.assertcheck.specs.Statements.{named_column, new_place, places_from, places_of};
 
 use std::alloc::{AllocError, Global};
@@ -18,20 +17,6 @@ pub fn all_places(alloc: Global, columns: &[Column]) -> Result<Vec<usize>, Alloc
     for _column in columns {
         let place = places.len();
         places.push(place)?;
-    }
-    Ok(places)
-}
-
-/// The places of the columns of these names, each as often as it is named.
-#[tactic(auto, using(value::proofs::Results::behind_next, value::proofs::Results::behind_none))]
-pub fn named_columns(alloc: Global, schema: &Schema, names: &[Text]) -> Result<Vec<usize>, Refusal>
-    ensures made { IfOk result (λ places. each (named_column schema.now.columns) names.now ≡ Ok places.items) }
-    ensures refused { IfErr result (λ refusal.
-        refusal ≢ NoMemory → each (named_column schema.now.columns) names.now ≡ Err refusal) }
-{
-    let mut places = Vec::new(alloc);
-    for name in names {
-        places.push(named_column(schema, name)?)?;
     }
     Ok(places)
 }

@@ -1,25 +1,36 @@
 //! SELECT.
 
-ghost use Rattle.std.specs.Prelude.{◌≡◌, ◌≢◌, ◌<◌, [], length, IsTrue, IfOk, IfErr, Ok, Err};
-ghost use Rattle.table.specs.Bounds.{is_bounded};
+ghost use Rattle.std.specs.Prelude.{◌≡◌, ◌≢◌, ◌<◌, [], length, IsTrue, IfOk, IfErr, Ok, Err, None, Some};
+ghost use Rattle.table.specs.Bounds.{is_bounded as is_bounded_of};
 ghost use Rattle.value.specs.declared.refusals.Refusal.TheVariants.{NoMemory};
-ghost use Rattle.assertcheck.specs.Statements.{select_of, selected_places};
+ghost use Rattle.form_check.specs.ShownScopes.{lent_scope};
+ghost use Rattle.form_check.specs.ShownSources.{shown_source};
+ghost use Rattle.assertcheck.specs.Selects.{IsBoundedListing, lists_each_row, select_of, select_over, selected_fault, selected_source, sound_select};
 
-use crate::columns::{all_places, named_columns};
-use crate::conditions::{filter_condition, target};
-use sqlite_items::{Boxed, Items};
+use crate::conditions::{look_up_where, row_filter};
+use crate::listings::{is_bounded_listing, is_typed_listing, listing, look_up_columns};
+use crate::typed_trees::is_well_typed;
+use form_check::{Scope, Source, Summary};
+use sqlite_items::Items;
 use std::alloc::Global;
-use syntax::{Condition, Which};
-use table::{Catalog, Cond, Schema};
-use value::{Refusal, Text};
+use table::{Catalog, Column, Cond, Expr, is_bounded};
+use value::Refusal;
 
-/// A SELECT with its names found: of the rows of a table that a condition keeps, what stands in these columns.
+/// What a SELECT lists of the rows that its condition keeps.
+#[derive(Debug, Drop)]
+pub enum Listing {
+    /// Of each row what these expressions give.
+    EachRow(Items<Expr>),
+    /// One row, whatever the rows are: what these expressions over set functions of all of them give.
+    AllRows(Items<Summary>),
+}
+
+/// A SELECT with its names found.
 #[derive(Debug, Drop)]
 pub struct Select {
     /// The table's place in the catalog.
     pub table: usize,
-    /// The places of the listed columns, in their order; one may stand there twice. `*` lists all.
-    pub columns: Items<usize>,
+    pub listing: Listing,
     pub filter: Cond,
 }
 
@@ -27,40 +38,107 @@ pub struct Select {
 ///
 /// # Errors
 ///
-/// The first fault: [`Refusal::UnknownName`] of the table, then of the listed columns from the left, and then of the
-/// condition's names; then [`Refusal::OutsideClass`], [`Refusal::TypeMismatch`] and [`Refusal::TooWide`] of the
-/// condition. Or [`Refusal::NoMemory`].
+/// The first fault: [`Refusal::UnknownName`] of the table, then of the names in the listed columns from the left, and
+/// then of the condition's names. After all names, of all columns and the condition, [`Refusal::OutsideClass`], then
+/// [`Refusal::TypeMismatch`], and then [`Refusal::TooWide`]. Or [`Refusal::NoMemory`].
 pub fn check_select(
     alloc: Global,
     catalog: &Catalog,
-    columns: &Which,
-    table: &Text,
-    condition: &Option<Boxed<Condition>>,
+    select: &syntax::Select,
 ) -> Result<Select, Refusal>
-    ensures made { IfOk result (λ select. select_of catalog.now columns.now table.now condition.now ≡ Ok select) }
+    ensures made { IfOk result (λ made. select_of catalog.now select.now ≡ Ok made) }
     ensures refused { IfErr result (λ refusal.
-        refusal ≢ NoMemory → select_of catalog.now columns.now table.now condition.now ≡ Err refusal) }
-    ensures within { IfOk result (λ select. select.table < length catalog.now) }
-    ensures bounded { IfOk result (λ select. IsTrue (is_bounded [] select.filter)) }
+        refusal ≢ NoMemory → select_of catalog.now select.now ≡ Err refusal) }
+    ensures within { IfOk result (λ made. made.table < length catalog.now) }
+    ensures bounded { IfOk result (λ made. IsBoundedListing made.listing) }
+    ensures bounded_condition { IfOk result (λ made. IsTrue (is_bounded_of [] made.filter)) }
 {
-    let target = target(catalog, table)?;
-    let places = selected_places(alloc, target.scope.schema, columns)?;
-    let filter = filter_condition(alloc, catalog, target.scope, condition)?;
-    Ok(Select {
-        table: target.table,
-        columns: Items::from_vec(places),
-        filter,
-    })
+    let target = selected_source(catalog, select)?;
+    let made = select_over(alloc, target, select);
+    if !lists_each_row(&made) {
+        known_names(alloc, catalog, target.scope, select)?;
+    }
+    made
 }
 
-/// The places of the columns that are listed.
-fn selected_places(alloc: Global, schema: &Schema, columns: &Which) -> Result<Vec<usize>, Refusal>
-    ensures made { IfOk result (λ places. selected_places schema.now.columns columns.now ≡ Ok places.items) }
+/// The table that a SELECT names.
+fn selected_source<'a>(
+    catalog: &'a Catalog,
+    select: &'a syntax::Select,
+) -> Result<Source<'a>, Refusal>
+    ensures found { IfOk result (λ source. selected_source catalog.now select.now ≡ Ok (shown_source source)) }
     ensures refused { IfErr result (λ refusal.
-        refusal ≢ NoMemory → selected_places schema.now.columns columns.now ≡ Err refusal) }
+        refusal ≢ NoMemory → selected_source catalog.now select.now ≡ Err refusal) }
+    ensures within { IfOk result (λ source. source.table < length catalog.now) }
 {
-    match columns {
-        Which::All => Ok(all_places(alloc, schema.columns())?),
-        Which::Names(names) => named_columns(alloc, schema, names.as_slice()),
+    match Source::of(catalog, &select.table, &select.correlation_name) {
+        Some(source) => Ok(source),
+        None => Err(Refusal::UnknownName {
+            name: select.table.copy()?,
+        }),
     }
+}
+
+/// Whether a SELECT could be made, and lists each row. Then its names are known: nothing but columns of its table
+/// stands there.
+fn lists_each_row(made: &Result<Select, Refusal>) -> bool
+    ensures { result ≡ lists_each_row made.now }
+{
+    match made {
+        Ok(select) => matches!(&select.listing, Listing::EachRow(_)),
+        Err(_) => false,
+    }
+}
+
+/// Looks up the names in the listed columns from the left, and then those of the condition.
+fn known_names(
+    alloc: Global,
+    catalog: &Catalog,
+    scope: Scope,
+    select: &syntax::Select,
+) -> Result<(), Refusal>
+    ensures known { IfOk result (λ _. selected_fault catalog.now (lent_scope scope.entry) select.now ≡ None) }
+    ensures refused { IfErr result (λ refusal.
+        refusal ≢ NoMemory → selected_fault catalog.now (lent_scope scope.entry) select.now ≡ Some refusal) }
+{
+    look_up_columns(alloc, catalog, scope, &select.columns)?;
+    look_up_where(alloc, catalog, scope, &select.keeps)
+}
+
+/// The SELECT of a table, if what it lists and its condition are over the table's rows alone, typed and bounded.
+fn select_over(alloc: Global, target: Source, select: &syntax::Select) -> Result<Select, Refusal>
+    ensures made { IfOk result (λ made. select_over (shown_source target.entry) select.now ≡ Ok made) }
+    ensures refused { IfErr result (λ refusal.
+        refusal ≢ NoMemory → select_over (shown_source target.entry) select.now ≡ Err refusal) }
+    ensures place { IfOk result (λ made. made.table ≡ target.entry.table) }
+    ensures bounded { IfOk result (λ made. IsBoundedListing made.listing) }
+    ensures bounded_condition { IfOk result (λ made. IsTrue (is_bounded_of [] made.filter)) }
+{
+    let listing = listing(alloc, target.scope, &select.columns)?;
+    let filter = row_filter(alloc, target.scope, &select.keeps)?;
+    let select = Select {
+        table: target.table,
+        listing,
+        filter,
+    };
+    require_sound(alloc, target.scope.schema.columns(), select)
+}
+
+/// The SELECT, if what it lists and its condition are typed, and bounded.
+fn require_sound(alloc: Global, columns: &[Column], select: Select) -> Result<Select, Refusal>
+    ensures made { IfOk result (λ made. sound_select columns.now select ≡ Ok made) }
+    ensures refused { IfErr result (λ refusal. refusal ≢ NoMemory → sound_select columns.now select ≡ Err refusal) }
+    ensures same { IfOk result (λ made. made ≡ select) }
+    ensures bounded { IfOk result (λ made. IsBoundedListing made.listing) }
+    ensures bounded_condition { IfOk result (λ made. IsTrue (is_bounded_of [] made.filter)) }
+{
+    let typed = is_typed_listing(alloc, columns, &select.listing)?;
+    if !typed || !is_well_typed(&select.filter, columns, &[]) {
+        return Err(Refusal::TypeMismatch);
+    }
+    let bounded = is_bounded_listing(alloc, &select.listing)?;
+    if !bounded || !is_bounded(&select.filter, &[]) {
+        return Err(Refusal::TooWide);
+    }
+    Ok(select)
 }

@@ -45,7 +45,7 @@ pub fn form_is_typed(alloc: Global, catalog: &Catalog, form: &Form) -> Result<bo
             if !is_well_typed(filter, columns, &[]) {
                 return Ok(false);
             }
-            let slots = slot_types(alloc, &Aggregates { columns }, aggregates.as_slice())?;
+            let slots = aggregate_types(alloc, columns, aggregates.as_slice())?;
             Ok(is_typed_over(having, group_columns(columns, *group), &slots))
         }
         Form::Single { condition, queries } => {
@@ -115,6 +115,17 @@ fn slot_types<T: SlotTypes>(
         types.push(found)?;
     }
     Ok(Some(Items::from_vec(types)))
+}
+
+/// The types of what set functions of rows of these columns give; none where one is not typed.
+pub fn aggregate_types(
+    alloc: Global,
+    columns: &[Column],
+    aggregates: &[Aggregate],
+) -> Result<Option<Items<DataType>>, AllocError>
+    ensures { IfOk result (λ types. types ≡ all_types (map (aggregate_type_of columns.now) aggregates.now)) }
+{
+    slot_types(alloc, &Aggregates { columns }, aggregates)
 }
 
 /// The types of what a row with these columns holds.

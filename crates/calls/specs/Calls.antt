@@ -430,7 +430,7 @@ table_columns table now = columns_in (layout_of table now.kept.engine.core.decla
 
 -- the columns of the table that a SELECT reads; none for any other event
 abbrev pub columns_of : Event → Database → List Column
-columns_of (event.Run (statement.Select columns table keeps)) now = table_columns table now
+columns_of (event.Run (statement.Select select)) now = table_columns select.table now
 columns_of other now = []
 
 -- the columns of the table of the SELECT that was answered, for the reply

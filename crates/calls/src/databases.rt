@@ -446,7 +446,7 @@ impl Database {
         ensures { result.now ≡ spec.columns_of event.now self.now }
     {
         match event {
-            Event::Run(Statement::Select { table, .. }) => self.table_columns(table),
+            Event::Run(Statement::Select(select)) => self.table_columns(&select.table),
             _ => &[],
         }
     }

@@ -5,3 +5,4 @@ pub mod Due
 pub mod Fitting
 pub mod FilteredUnder
 pub mod Walks
+mod LentRows

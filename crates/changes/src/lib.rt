@@ -10,7 +10,7 @@
 //! - A DELETE takes out the rows of which its condition is true ([`removals`]).
 //! - An UPDATE gives such rows other values. Each is evaluated on the row as it was, and the first fault, by rows in
 //!   key order and then by assignments as they are written, refuses the whole ([`renewals`]).
-//! - A SELECT changes nothing, and lists what stands in such rows ([`selected_rows`]).
+//! - A SELECT changes nothing. It lists values of each of such rows, or of all of them together ([`listed_rows`]).
 //!
 //! Where a WHERE has `key = literal` among the parts that AND joins at its top, that one row is looked up; where it has
 //! `column = literal` and the column has an index, the rows with that value are; and else all rows are tested: one
@@ -66,9 +66,9 @@ mod deletions;
 mod filtered;
 mod filters;
 mod insertions;
+mod listings;
 mod lookups;
 mod real;
-mod selections;
 mod settings;
 mod touched;
 mod updates;
@@ -76,9 +76,10 @@ mod wheres;
 
 pub use checks::{checks_read, push_check, push_checks, tables_read};
 pub use deletions::removals;
+pub use filtered::{FilteredRows, filtered_rows};
 pub use filters::TableFilter;
 pub use insertions::insertion;
+pub use listings::listed_rows;
 pub use real::{is_same_there, real_changes};
-pub use selections::selected_rows;
 pub use touched::{RowsThere, TouchedRows};
 pub use updates::renewals;

@@ -8,7 +8,7 @@
 use crate::columns::{WhichRow, add_column, add_columns, add_condition};
 use crate::pairs::count_pairs;
 use assertion::{Form, Link, Query, Whole};
-use changes::{TableFilter, selected_rows};
+use changes::{TableFilter, filtered_rows};
 use delta::View;
 use std::alloc::{AllocError, Global};
 use table::{Aggregate, Cond, Row, is_bounded};
@@ -372,17 +372,17 @@ pub fn row_count(view: &View, table: usize) -> usize {
 /// How many rows of a table a WHERE keeps that go to a group, and how many groups they make.
 fn count(alloc: Global, view: &View, rows: Selection) -> Result<Counts, AllocError> {
     let Some(column) = rows.grouping.column() else {
-        let rows = rows_of(alloc, view, rows, &[])?.len();
+        let rows = rows_of(alloc, view, rows)?.len();
         return Ok(Counts {
             rows,
             groups: rows.min(1),
         });
     };
     let is_link = matches!(rows.grouping, Grouping::Linked(_));
-    let kept = rows_of(alloc, view, rows, &[column])?;
+    let kept = rows_of(alloc, view, rows)?;
     let mut values = Vec::new(alloc);
     for row in &kept {
-        if let Some(value) = group_of(is_link, row) {
+        if let Some(value) = group_of(is_link, column, row) {
             values.push(value)?;
         }
     }
@@ -393,23 +393,26 @@ fn count(alloc: Global, view: &View, rows: Selection) -> Result<Counts, AllocErr
     })
 }
 
-/// The rows of a table that a WHERE keeps, with these columns alone.
-fn rows_of(
+/// The rows of a table that a WHERE keeps.
+fn rows_of<'a>(
     alloc: Global,
-    view: &View,
-    rows: Selection,
-    columns: &[usize],
-) -> Result<Vec<Row>, AllocError> {
+    view: &'a View,
+    rows: Selection<'a>,
+) -> Result<Vec<&'a Row>, AllocError> {
+    let mut kept = Vec::new(alloc);
     if rows.table >= view.catalog().len() || !is_bounded(rows.filter, &[]) {
-        return Ok(Vec::new(alloc));
+        return Ok(kept);
     }
     let filter = TableFilter::new(rows.table, view.key_column(rows.table), rows.filter)?;
-    selected_rows(alloc, view.rows(rows.table), columns, &filter)
+    for row in filtered_rows(alloc, view.rows(rows.table), &filter) {
+        kept.push(row)?;
+    }
+    Ok(kept)
 }
 
-/// The group of a row of which the grouping column is listed, if it goes to one.
-fn group_of(is_link: bool, row: &Row) -> Option<&Value> {
-    match row.values().first() {
+/// The group of a row by the grouping column, if it goes to one.
+fn group_of(is_link: bool, column: usize, row: &Row) -> Option<&Value> {
+    match row.values().get(column) {
         Some(Value::Null) if is_link => None,
         value => value,
     }

@@ -1,13 +1,13 @@
 //! Statements of a script that look at every row of their table.
 
-use assertcheck::{Delete, check_delete};
+use assertcheck::{check_delete, check_select};
 use changes::TableFilter;
 use delta::View;
 use siread::LockKey;
-use sqlite_items::Boxed;
 use std::alloc::{AllocError, Global};
-use syntax::{Condition, Event, ScriptLine, Statement};
-use value::{Refusal, Text};
+use syntax::{Event, ScriptLine, Statement};
+use table::Cond;
+use value::Refusal;
 
 /// At most so many are told.
 pub const MOST_SCANS: usize = 5;
@@ -49,34 +49,39 @@ fn push_scan(
     scans: &mut Vec<Scan>,
 ) -> Result<(), AllocError> {
     match statement {
-        Statement::Update { table, keeps, .. }
-        | Statement::Delete { table, keeps }
-        | Statement::Select { table, keeps, .. } => {
-            if let Some((table, column)) = scanned(alloc, table, keeps, view)? {
-                scans.push(Scan {
-                    place,
-                    table,
-                    column,
-                })?;
-            }
-            Ok(())
+        Statement::Update { table, keeps, .. } | Statement::Delete { table, keeps } => {
+            // (a WHERE is resolved alike in both)
+            let scanned = match check_delete(alloc, view.catalog(), table, keeps) {
+                Ok(resolved) => scanned_by(resolved.table, &resolved.filter, view)?,
+                Err(refusal) => none_unless_memory(&refusal)?,
+            };
+            put_scan(place, scanned, scans)
+        }
+        Statement::Select(select) => {
+            let scanned = match check_select(alloc, view.catalog(), select) {
+                Ok(resolved) => scanned_by(resolved.table, &resolved.filter, view)?,
+                Err(refusal) => none_unless_memory(&refusal)?,
+            };
+            put_scan(place, scanned, scans)
         }
         _ => Ok(()),
     }
 }
 
-/// The table of which a WHERE looks at every row, if it does, and the column of which it wants a value.
-fn scanned(
-    alloc: Global,
-    table: &Text,
-    keeps: &Option<Boxed<Condition>>,
-    view: &View,
-) -> Result<Option<(usize, Option<usize>)>, AllocError> {
-    // A WHERE is resolved alike in each statement.
-    match check_delete(alloc, view.catalog(), table, keeps) {
-        Ok(resolved) => scanned_by(&resolved, view),
-        Err(refusal) => none_unless_memory(&refusal),
+/// Puts the statement of a line behind the others, if it looks at every row of a table.
+fn put_scan(
+    place: usize,
+    scanned: Option<(usize, Option<usize>)>,
+    scans: &mut Vec<Scan>,
+) -> Result<(), AllocError> {
+    if let Some((table, column)) = scanned {
+        scans.push(Scan {
+            place,
+            table,
+            column,
+        })?;
     }
+    Ok(())
 }
 
 /// Nothing, or want of memory where that is the refusal.
@@ -87,17 +92,17 @@ fn none_unless_memory<T>(refusal: &Refusal) -> Result<Option<T>, AllocError> {
     }
 }
 
-/// The same of a WHERE whose names are found.
+/// The table, if the WHERE of a statement over it looks at every row, and the column of which it wants a value.
 fn scanned_by(
-    resolved: &Delete,
+    table: usize,
+    condition: &Cond,
     view: &View,
 ) -> Result<Option<(usize, Option<usize>)>, AllocError> {
-    let table = resolved.table;
     if table >= view.catalog().len() {
         return Ok(None);
     }
     let key = view.key_column(table);
-    let filter = TableFilter::new(table, key, &resolved.filter)?;
+    let filter = TableFilter::new(table, key, condition)?;
     Ok(match filter.read() {
         LockKey::Row(_) => None,
         LockKey::Column { column, value, .. } => {

@@ -4,7 +4,7 @@ use crate::contexts::{Context, Viewpoint};
 use crate::names::diagnose_unknown;
 use crate::parts::{Part, parts_of_condition};
 use crate::rules::{push_form, wrong};
-use crate::shapes::{Outside, in_assertion, in_where};
+use crate::shapes::{Outside, in_assertion, in_statement};
 use crate::types::{Mismatch, in_condition as mismatch_in_condition};
 use crate::widths::{BoundedPart, Wide, first_wide, push_bounds};
 use assertcheck::DataType;
@@ -40,6 +40,23 @@ pub fn diagnose_condition<'a>(
     }
 }
 
+/// Says what is wrong with an expression of a statement but for its types, if that is found in its parts. `outside` is
+/// the first of them that is outside the class.
+pub fn diagnose_expression<'a>(
+    alloc: Global,
+    here: Viewpoint<'a>,
+    parts: &[Part<'a>],
+    outside: Option<Outside>,
+    diagnosis: &mut Diagnosis,
+) -> Result<bool, AllocError> {
+    match here.context.refusal {
+        Refusal::UnknownName { name } => diagnose_unknown(alloc, here, name, parts, diagnosis),
+        Refusal::OutsideClass => diagnose_shape(here.context, outside, diagnosis),
+        Refusal::TooWide => diagnose_width(alloc, here.context, parts, diagnosis),
+        _ => Ok(false),
+    }
+}
+
 fn diagnose_names<'a>(
     alloc: Global,
     context: Context<'a>,
@@ -64,7 +81,7 @@ fn diagnose_class<'a>(
     let outside = if site.scopes.is_empty() {
         in_assertion(alloc, context.catalog, site.condition, site.at)?
     } else {
-        in_where(alloc, site.condition, site.at)?
+        in_statement(&parts_of_condition(alloc, site.condition, site.at)?)
     };
     diagnose_shape(context, outside, diagnosis)
 }
@@ -169,7 +186,7 @@ fn push_types(context: Context, mismatch: Mismatch, advice: &mut String) -> Resu
 }
 
 /// Says which of some parts is an expression without a bound, if one is.
-pub fn diagnose_width(
+fn diagnose_width(
     alloc: Global,
     context: Context,
     parts: &[Part],
@@ -189,7 +206,7 @@ pub fn diagnose_width(
 const MOST_PARTS: usize = 6;
 
 /// What has which bound.
-const SMALLER: &str = "Compare without the product, or take factors of a smaller bound: a column, \
+const SMALLER: &str = "Do without the product, or take factors of a smaller bound: a column, \
      MIN and MAX reach 2^50, COUNT 2^64 and SUM 2^114.";
 
 /// The bounds of the parts of an expression that has none.

@@ -37,6 +37,12 @@ pub enum Rule {
     SeveralRules,
     /// A set function stands in a condition of its own, outside a query.
     FunctionAlone,
+    /// A query stands in a statement.
+    QueryInStatement,
+    /// A set function stands in the WHERE of a statement, or in what an UPDATE assigns.
+    FunctionInStatement,
+    /// A column stands in the list of a SELECT outside of set functions, and a set function in it too.
+    ColumnBesideFunction,
 }
 
 /// What is wrong with a part that breaks a rule of the class.
@@ -57,6 +63,9 @@ pub fn wrong(rule: Rule) -> &'static str {
         Rule::ExistsAlone => "EXISTS stands in a rule as NOT EXISTS (..), with nothing beside it",
         Rule::SeveralRules => "these are several rules in one",
         Rule::FunctionAlone => "a set function stands in a query",
+        Rule::QueryInStatement => "no query may stand in a statement",
+        Rule::FunctionInStatement => "this looks at one row, and a set function at many",
+        Rule::ColumnBesideFunction => "this column stands beside set functions, and in none",
     }
 }
 
@@ -86,6 +95,9 @@ fn form_of(rule: Rule) -> &'static str {
         Rule::ExistsAlone => EXISTS_ALONE,
         Rule::SeveralRules => SEVERAL_RULES,
         Rule::FunctionAlone => FUNCTION_ALONE,
+        Rule::QueryInStatement => QUERY_IN_STATEMENT,
+        Rule::FunctionInStatement => FUNCTION_IN_STATEMENT,
+        Rule::ColumnBesideFunction => COLUMN_BESIDE_FUNCTION,
     }
 }
 
@@ -136,6 +148,18 @@ const SEVERAL_RULES: &str = "Write one assertion for each EXISTS. What holds whe
      does is one query: NOT EXISTS (SELECT * FROM T WHERE .. AND NOT ..).";
 
 const FUNCTION_ALONE: &str = "Say of which table: (SELECT SUM(BAL) FROM ACCT) >= 0.";
+
+const QUERY_IN_STATEMENT: &str =
+    "Ask for it by a SELECT of its own: all statements of a transaction \
+     read one snapshot, and what it wrote itself.";
+
+const FUNCTION_IN_STATEMENT: &str =
+    "Set functions stand in the list of a SELECT: SELECT MAX(C) FROM \
+     T WHERE ..";
+
+const COLUMN_BESIDE_FUNCTION: &str =
+    "Of all rows together a column has many values: take MIN(..), MAX(..), SUM(..) or COUNT(..) of \
+     it, or list the columns by a SELECT of its own.";
 
 /// What is said of a condition in which no part was found to break a rule.
 pub const FORMS: &str = "A rule is NOT EXISTS (SELECT * FROM T R WHERE ..), NOT EXISTS (SELECT K \

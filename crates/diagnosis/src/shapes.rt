@@ -49,7 +49,7 @@ pub fn in_assertion<'a>(
 }
 
 /// The part of a WHERE over the rows of one table that is outside the class: a query, or a set function.
-pub fn in_where<'a>(
+fn in_where<'a>(
     alloc: Global,
     condition: &Condition,
     at: usize,
@@ -59,15 +59,40 @@ pub fn in_where<'a>(
 }
 
 /// The first query or set function among parts that look at one row.
-pub fn in_parts<'a>(parts: &[Part]) -> Option<Outside<'a>> {
+fn in_parts<'a>(parts: &[Part]) -> Option<Outside<'a>> {
+    first_of_rows(parts, Rule::QueryInWhere, Rule::FunctionInWhere)
+}
+
+/// The same of parts of a statement.
+pub fn in_statement<'a>(parts: &[Part]) -> Option<Outside<'a>> {
+    first_of_rows(parts, Rule::QueryInStatement, Rule::FunctionInStatement)
+}
+
+/// The first query or set function, with the rule that each breaks.
+fn first_of_rows<'a>(parts: &[Part], of_query: Rule, of_function: Rule) -> Option<Outside<'a>> {
+    for part in parts {
+        match part.node {
+            Node::Exists(_) | Node::Value(_) => return fault_of_rule(of_query, part.range),
+            Node::Function(_) => return fault_of_rule(of_function, part.range),
+            Node::Column(_) | Node::Arithmetic(_) | Node::End => {}
+        }
+    }
+    None
+}
+
+/// The first part of a derived column of a SELECT that is outside the class: a query, or where a set function stands in
+/// the list, a column outside of one.
+pub fn in_listed<'a>(parts: &[Part], over_all_rows: bool) -> Option<Outside<'a>> {
     for part in parts {
         match part.node {
             Node::Exists(_) | Node::Value(_) => return fault_of_rule(
-                Rule::QueryInWhere,
+                Rule::QueryInStatement,
                 part.range,
             ),
-            Node::Function(_) => return fault_of_rule(Rule::FunctionInWhere, part.range),
-            Node::Column(_) | Node::Arithmetic(_) | Node::End => {}
+            Node::Column(_) if over_all_rows => {
+                return fault_of_rule(Rule::ColumnBesideFunction, part.range);
+            }
+            Node::Column(_) | Node::Function(_) | Node::Arithmetic(_) | Node::End => {}
         }
     }
     None

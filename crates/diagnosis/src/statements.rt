@@ -2,26 +2,24 @@
 //! constants that no row may hold.
 
 use crate::answers::refusal_in;
-use crate::conditions::{
-    Site, diagnose_condition, diagnose_shape, diagnose_types, diagnose_whole, diagnose_width,
-    type_name,
-};
+use crate::conditions::{diagnose_expression, diagnose_types, diagnose_whole, type_name};
 use crate::contexts::{Context, Viewpoint};
 use crate::inserts::{WrittenInsert, diagnose_insert, insert_refusal, push_value_of_type};
 use crate::leaves::{Range, of_expression};
-use crate::names::{MOST_NAMES, diagnose_column_name, diagnose_table_name, diagnose_unknown};
+use crate::names::{MOST_NAMES, diagnose_column_name};
 use crate::parts::parts_of_expression;
-use crate::shapes::in_parts;
+use crate::rows::{Rows, diagnose_rows};
+use crate::selects::diagnose_select;
+use crate::shapes::in_statement;
 use crate::types::of_type;
 use assertcheck::{DataType, check_delete, check_select, check_update};
 use delta::View;
 use faults::{At, Diagnosis, Nearest, Piece, Span, push_names};
 use form_check::Scope;
-use sqlite_items::Boxed;
 use std::alloc::{AllocError, Global};
 use std::slice;
-use syntax::{Assignment, Condition, Expression, Statement, UpdateSource, Which as Listed};
-use table::{Catalog, Column};
+use syntax::{Assignment, Expression, Statement, UpdateSource, Which};
+use table::Column;
 use value::{Refusal, Text};
 
 /// A statement of a script, by the script's text and its place among the lines.
@@ -60,11 +58,7 @@ fn refusal_of(
         Statement::Delete { table, keeps } => {
             refusal_in(check_delete(alloc, catalog, table, keeps))
         }
-        Statement::Select {
-            columns,
-            table,
-            keeps,
-        } => refusal_in(check_select(alloc, catalog, columns, table, keeps)),
+        Statement::Select(select) => refusal_in(check_select(alloc, catalog, select)),
         Statement::SetConstraints { assertions, .. } => refusal_to_set(view, assertions),
         Statement::Verdict(name) => unknown_assertion(view, name),
     }
@@ -81,8 +75,8 @@ fn unknown_assertion(view: &View, name: &Text) -> Result<Option<Refusal>, AllocE
 }
 
 /// Why SET CONSTRAINTS does not take the first of its names that it refuses.
-fn refusal_to_set(view: &View, assertions: &Listed) -> Result<Option<Refusal>, AllocError> {
-    let Listed::Names(names) = assertions else {
+fn refusal_to_set(view: &View, assertions: &Which) -> Result<Option<Refusal>, AllocError> {
+    let Which::Names(names) = assertions else {
         return Ok(None);
     };
     for name in names.as_slice() {
@@ -157,116 +151,11 @@ fn diagnose_parts(
             let rows = Rows::new(table, 1, keeps, 2);
             diagnose_rows(alloc, context, rows, diagnosis)
         }
-        Statement::Select {
-            columns,
-            table,
-            keeps,
-        } => {
-            let table_at = listed_count(columns).saturating_add(2);
-            let rows = Rows::new(table, table_at, keeps, table_at.saturating_add(1));
-            diagnose_select(alloc, context, columns, rows, diagnosis)
-        }
+        Statement::Select(select) => diagnose_select(alloc, context, select, diagnosis),
         Statement::SetConstraints { .. } | Statement::Verdict(_) => {
             diagnose_asserted(alloc, context, view, diagnosis)
         }
     }
-}
-
-/// The table of a statement and its WHERE, and where their leaves begin.
-#[derive(Clone, Copy)]
-struct Rows<'a> {
-    table: &'a Text,
-    table_at: usize,
-    keeps: &'a Option<Boxed<Condition>>,
-    keeps_at: usize,
-}
-
-impl<'a> Rows<'a> {
-    fn new(
-        table: &'a Text,
-        table_at: usize,
-        keeps: &'a Option<Boxed<Condition>>,
-        keeps_at: usize,
-    ) -> Rows<'a> {
-        Rows {
-            table,
-            table_at,
-            keeps,
-            keeps_at,
-        }
-    }
-
-    /// The scope of the table, if there is one.
-    fn scope(&self, catalog: &'a Catalog) -> Option<Scope<'a>> {
-        Some(Scope {
-            exposed_name: self.table,
-            schema: catalog.get(self.table)?,
-        })
-    }
-}
-
-/// Says what is wrong with a table or its WHERE, if that is found.
-fn diagnose_rows(
-    alloc: Global,
-    context: Context,
-    rows: Rows,
-    diagnosis: &mut Diagnosis,
-) -> Result<bool, AllocError> {
-    let Some(scope) = rows.scope(context.catalog) else {
-        diagnose_table_name(alloc, context, rows.table, rows.table_at, diagnosis)?;
-        return Ok(true);
-    };
-    match rows.keeps {
-        Some(keeps) => {
-            let site = Site {
-                condition: keeps.get(),
-                at: rows.keeps_at,
-                scopes: slice::from_ref(&scope),
-            };
-            diagnose_condition(alloc, context, site, diagnosis)
-        }
-        None => Ok(false),
-    }
-}
-
-/// How many columns a SELECT lists.
-fn listed_count(columns: &Listed) -> usize {
-    match columns {
-        Listed::All => 0,
-        Listed::Names(names) => names.len(),
-    }
-}
-
-fn diagnose_select(
-    alloc: Global,
-    context: Context,
-    columns: &Listed,
-    rows: Rows,
-    diagnosis: &mut Diagnosis,
-) -> Result<bool, AllocError> {
-    if let (Some(scope), Listed::Names(names), Refusal::UnknownName { name }) = (
-        rows.scope(context.catalog),
-        columns,
-        context.refusal,
-    ) {
-        if let Some(place) = first_unlisted(scope, names.as_slice()) {
-            let scopes = slice::from_ref(&scope);
-            let here = Viewpoint { context, scopes };
-            diagnose_column_name(alloc, here, name, place.saturating_add(2), diagnosis)?;
-            return Ok(true);
-        }
-    }
-    diagnose_rows(alloc, context, rows, diagnosis)
-}
-
-/// The place of the first of some names that is no column of a table.
-fn first_unlisted(scope: Scope, names: &[Text]) -> Option<usize> {
-    for (place, name) in names.iter().enumerate() {
-        if scope.schema.column(name).is_none() {
-            return Some(place);
-        }
-    }
-    None
 }
 
 /// An assignment of an UPDATE to this table, and where its leaves begin.
@@ -424,16 +313,9 @@ fn diagnose_given(
     diagnosis: &mut Diagnosis,
 ) -> Result<bool, AllocError> {
     let parts = parts_of_expression(alloc, given.expression, given.at)?;
-    match context.refusal {
-        Refusal::UnknownName { name } => {
-            let scopes = slice::from_ref(&given.assigned.scope);
-            let here = Viewpoint { context, scopes };
-            diagnose_unknown(alloc, here, name, &parts, diagnosis)
-        }
-        Refusal::OutsideClass => diagnose_shape(context, in_parts(&parts), diagnosis),
-        Refusal::TooWide => diagnose_width(alloc, context, &parts, diagnosis),
-        _ => Ok(false),
-    }
+    let scopes = slice::from_ref(&given.assigned.scope);
+    let here = Viewpoint { context, scopes };
+    diagnose_expression(alloc, here, &parts, in_statement(&parts), diagnosis)
 }
 
 /// Says which types do not fit in an expression, or that it is of another type than its column, if that is found.

@@ -61,6 +61,15 @@ impl<'a> Stop<'a> {
             && self.kind_before(3) == Kind::References
     }
 
+    /// Whether its line is a SELECT of a session.
+    fn is_in_select(&self) -> bool {
+        self.which == Which::Script
+            && self
+                .before
+                .get(2)
+                .is_some_and(|token| token.kind == Kind::Select)
+    }
+
     fn has_before(&self, kind: Kind) -> bool {
         self.before.iter().any(|token| token.kind == kind)
     }
@@ -74,6 +83,23 @@ impl<'a> Stop<'a> {
 /// Of ON DELETE and CASCADE.
 const NO_REFERENTIAL_ACTION: &str =
     "A foreign key does nothing by itself: change the rows that refer in the same transaction.";
+
+/// Of a second table in a SELECT of a session.
+const ONE_TABLE: &str =
+    "A SELECT has one table. Ask for the rows of another by a SELECT of its own.";
+
+/// What SQL has and a SELECT of a session has not, with what to write there.
+const IN_SELECT: [(&str, &str); 6] = [
+    ("AVG", "There is no AVG. List SUM(C) and COUNT(C)."),
+    (
+        "CASE",
+        "There is no CASE. Write a SELECT for each case, with the case in its WHERE.",
+    ),
+    ("INNER", ONE_TABLE),
+    ("JOIN", ONE_TABLE),
+    ("LEFT", ONE_TABLE),
+    ("UNION", "There is no UNION: write a SELECT for each query."),
+];
 
 /// What SQL has and the language has not, with what to write.
 const ELSEWHERE: [(&str, &str); 41] = [
@@ -221,7 +247,7 @@ pub fn push_hint(alloc: Global, stop: &Stop, advice: &mut String) -> Result<(), 
     if stop.token.kind == Kind::Bad {
         return push_bad_token(stop, advice);
     }
-    if let Some(sentence) = elsewhere(stop).or(by_kind(stop)) {
+    if let Some(sentence) = elsewhere(stop).or(behind_clause(stop)).or(by_kind(stop)) {
         return push_sentence(sentence, advice);
     }
     if stop.token.kind == Kind::Name {
@@ -244,7 +270,9 @@ fn push_sentence(sentence: &str, advice: &mut String) -> Result<(), AllocError> 
 
 /// By what stands there and before it.
 fn by_kind(stop: &Stop) -> Option<&'static str> {
-    by_sign(stop)
+    by_clause(stop)
+        .or(by_sign(stop))
+        .or(by_function(stop))
         .or(by_quantifier(stop))
         .or(by_constraint(stop))
         .or(by_column(stop))
@@ -274,9 +302,49 @@ fn by_sign(stop: &Stop) -> Option<&'static str> {
     }
 }
 
+/// Of what stands in the parentheses of a set function.
+fn by_function(stop: &Stop) -> Option<&'static str> {
+    let (open, function) = match (stop.kind_before(0), stop.kind_before(1)) {
+        (Kind::Name, Kind::Open) => (true, stop.kind_before(2)),
+        (open, function) => (open == Kind::Open, function),
+    };
+    match (stop.token.kind, function) {
+        (
+            Kind::Number | Kind::Plus | Kind::Minus | Kind::Star,
+            Kind::Sum | Kind::Min | Kind::Max | Kind::Count,
+        ) if open => Some("A set function takes one column, as SUM(C) does; COUNT(*) takes rows."),
+        _ => None,
+    }
+}
+
+/// Of the list of a SELECT of a session, and of clauses that it has not.
+fn by_clause(stop: &Stop) -> Option<&'static str> {
+    if !stop.is_in_select() {
+        return None;
+    }
+    match (stop.token.kind, stop.last()) {
+        (Kind::Group | Kind::Having, _) => Some(
+            "A SELECT of a session makes no groups: its set functions are of all rows that its WHERE keeps.",
+        ),
+        (Kind::Comma, _) if is_behind(Kind::From, stop.before) => Some(ONE_TABLE),
+        (Kind::Comma, Kind::Star) => {
+            Some(
+                "A star lists all columns and stands alone. Beside others write the columns one by one.",
+            )
+        }
+        (Kind::Null, Kind::Select | Kind::Comma) => {
+            Some("NULL alone is no expression: list columns, numbers and texts.")
+        }
+        _ => None,
+    }
+}
+
 /// Of ALL and DISTINCT.
 fn by_quantifier(stop: &Stop) -> Option<&'static str> {
     match (stop.token.kind, stop.last()) {
+        (Kind::Distinct, Kind::Select) if stop.which == Which::Script => {
+            Some("DISTINCT stands in set functions alone: COUNT(DISTINCT C).")
+        }
         (Kind::Distinct, Kind::Select) => Some(
             "DISTINCT stands in set functions alone: COUNT(DISTINCT C). GROUP BY makes one group of each value.",
         ),
@@ -428,9 +496,44 @@ fn elsewhere(stop: &Stop) -> Option<&'static str> {
         Some(token) if stop.token.kind == Kind::Open => between(stop.text, token.start, token.end),
         _ => stop.bytes(),
     };
-    for (name, sentence) in &ELSEWHERE {
+    sentence_of(stop, word)
+}
+
+/// What is said of a word of SQL that the language does not have.
+fn sentence_of(stop: &Stop, word: &[u8]) -> Option<&'static str> {
+    if stop.is_in_select() {
+        sentence_in(&IN_SELECT, word).or(sentence_in(&ELSEWHERE, word))
+    } else {
+        sentence_in(&ELSEWHERE, word)
+    }
+}
+
+/// What these sentences say of a word.
+fn sentence_in(sentences: &[(&str, &'static str)], word: &[u8]) -> Option<&'static str> {
+    for (name, sentence) in sentences {
         if word.eq_ignore_ascii_case(name.as_bytes()) {
             return Some(sentence);
+        }
+    }
+    None
+}
+
+/// The words by which clauses of SQL begin that the language does not have. None is reserved, so one may be read as a
+/// name, and what stands behind it is refused.
+const CLAUSES: [&str; 6] = ["INNER", "JOIN", "LEFT", "LIMIT", "ORDER", "UNION"];
+
+/// Of what stands behind the first word of a clause that the language does not have.
+fn behind_clause(stop: &Stop) -> Option<&'static str> {
+    let last = stop.before.last()?;
+    let word = between(stop.text, last.start, last.end);
+    if word.eq_ignore_ascii_case(b"WHEN") {
+        return sentence_of(stop, b"CASE");
+    }
+    if last.kind == Kind::Name && stop.has_before(Kind::From) {
+        for name in &CLAUSES {
+            if word.eq_ignore_ascii_case(name.as_bytes()) {
+                return sentence_of(stop, word);
+            }
         }
     }
     None

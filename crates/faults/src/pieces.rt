@@ -46,14 +46,75 @@ impl<'a> Piece<'a> {
         span_of(&self.tokens).unwrap_or(Span { start: 0, end: 0 })
     }
 
-    /// From the leaf at one place up to that before another.
+    /// From the leaf at one place up to that before another, with the parentheses that open or close among them.
     pub fn leaves_from(&self, from: usize, to: usize) -> Option<Span> {
         let first = self.leaves.get(from)?;
         let last = self.leaves.get(to.saturating_sub(1))?;
-        Some(Span {
+        let span = Span {
             start: first.start,
             end: last.end.max(first.end),
-        })
+        };
+        Some(self.with_parentheses(self.with_star(span, last.kind)))
+    }
+
+    /// With the parentheses of COUNT(*), if COUNT is the last token. (No leaf stands in them.)
+    fn with_star(&self, span: Span, last: Kind) -> Span {
+        let mut behind = self
+            .tokens
+            .iter()
+            .skip_while(|token| token.start < span.end);
+        match (last, behind.next(), behind.next(), behind.next()) {
+            (Kind::Count, Some(_), Some(star), Some(close)) if star.kind == Kind::Star => Span {
+                start: span.start,
+                end: close.end,
+            },
+            _ => span,
+        }
+    }
+
+    /// With the parentheses around it that have their other ends in it.
+    fn with_parentheses(&self, span: Span) -> Span {
+        let (opened, closed) = self.unmatched(span);
+        let before = self
+            .tokens
+            .iter()
+            .rev()
+            .skip_while(|token| token.start >= span.start);
+        let behind = self
+            .tokens
+            .iter()
+            .skip_while(|token| token.start < span.end);
+        let mut start = span.start;
+        for token in before
+            .take(closed)
+            .take_while(|token| token.kind == Kind::Open)
+        {
+            start = token.start;
+        }
+        let mut end = span.end;
+        for token in behind
+            .take(opened)
+            .take_while(|token| token.kind == Kind::Close)
+        {
+            end = token.end;
+        }
+        Span { start, end }
+    }
+
+    /// How many parentheses open in a span and do not close there, and how many close that do not open there.
+    fn unmatched(&self, span: Span) -> (usize, usize) {
+        let (mut opened, mut closed) = (0usize, 0usize);
+        for token in &self.tokens {
+            if span.start <= token.start && token.start < span.end {
+                match token.kind {
+                    Kind::Open => opened = opened.saturating_add(1),
+                    Kind::Close if opened == 0 => closed = closed.saturating_add(1),
+                    Kind::Close => opened = opened.saturating_sub(1),
+                    _ => {}
+                }
+            }
+        }
+        (opened, closed)
     }
 
     /// The leaf at a place.

@@ -9,3 +9,4 @@ pub mod ShownSources
 pub mod Queries
 pub mod Links
 pub mod Forms
+pub mod Summaries

@@ -4,21 +4,22 @@ ghost use Rattle.std.specs.Prelude.{◌≡◌, ◌≢◌, IfOk, IfErr, Ok, Err};
 ghost use Rattle.syntax.specs.declared.trees.Query.{out-Query};
 ghost use Rattle.value.specs.declared.refusals.Refusal.TheVariants.{NoMemory};
 ghost use Rattle.form_check.specs.ShownScopes.{lent_scope};
-ghost use Rattle.form_check.specs.Forms.{aggregate_of, by_clauses, by_group, by_row, form_of, having_over, not_exists, row_where, single};
+ghost use Rattle.form_check.specs.Forms.{by_clauses, by_group, by_row, form_of, having_over, not_exists, row_where, single};
 ghost use Rattle.form_check.specs.ShownSources.{shown_source};
 ghost use Rattle.form_check.specs.ShownLeaves.{shown_leaves};
 
+use crate::aggregates::Aggregates;
 use crate::leaves::{Columns, Leaf, numbered_condition};
 use crate::linked_queries::RowQueries;
 use crate::plain_queries::WholeQueries;
-use crate::queries::{Source, may_be_selected, of_column, row_filter};
+use crate::queries::{Source, may_be_selected, row_filter};
 use crate::scopes::Scope;
-use crate::slots::{Slots, all_slots};
+use crate::slots::{all_slots, drop_and_refuse};
 use assertion::Form;
 use sqlite_items::Items;
 use std::alloc::Global;
 use syntax::{ColumnName, Condition, Query};
-use table::{Aggregate, Catalog, Cond};
+use table::{Catalog, Cond};
 use value::Refusal;
 
 /// The form of an assertion's condition, whose names are known.
@@ -75,14 +76,6 @@ fn by_row(alloc: Global, catalog: &Catalog, source: Source, query: &Query) -> Re
         }),
         Err(refusal) => drop_and_refuse(refusal, condition),
     }
-}
-
-/// Refuses, and lets go what was made before. Its type is a parameter here, so that the callers' proofs do not go over
-/// its fields.
-fn drop_and_refuse<T: Drop>(refusal: Refusal, _made: T) -> Result<Form, Refusal>
-    ensures { result ≡ Err refusal }
-{
-    Err(refusal)
 }
 
 /// The condition of WHERE, and what stands in its slots; a missing one keeps every row.
@@ -159,29 +152,6 @@ fn having_over(
             aggregates,
         }),
         Err(refusal) => drop_and_refuse(refusal, (filter, having)),
-    }
-}
-
-/// The set functions of the groups of a table.
-#[derive(Clone, Copy)]
-struct Aggregates<'a> {
-    scope: Scope<'a>,
-}
-
-impl<'a> Slots for Aggregates<'a> {
-    type Slot = Aggregate;
-
-    ghost slot = { λ s. aggregate_of (lent_scope s.scope) };
-
-    fn slot(&self, _alloc: Global, leaf: &Leaf) -> Result<Aggregate, Refusal> {
-        match leaf {
-            Leaf::Rows => Ok(Aggregate::CountRows),
-            Leaf::Of(function, argument) => match self.scope.own(&argument.column) {
-                Some(column) => Ok(of_column(*function, argument.quantifier, column)),
-                None => Err(Refusal::OutsideClass),
-            },
-            Leaf::Exists(_) | Leaf::Value(_) => Err(Refusal::OutsideClass),
-        }
     }
 }
 

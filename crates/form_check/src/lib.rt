@@ -36,7 +36,8 @@
 //!
 //! A *row condition* (WHERE of a statement, and of most queries) is over the columns of its own table alone: no set
 //! function, no query, no column of a table around it ([`row_condition`]). A *row expression* is so too
-//! ([`row_expression`]).
+//! ([`row_expression`]). A *summary* is over set functions of such rows together, and names no column outside them
+//! ([`summary_expression`]): what a SELECT lists where a set function stands in its list (7.9).
 //!
 //! An assertion's condition ([`form`]; SQL-92, ISO/IEC 9075:1992, assertion definition; which cut of it, is this
 //! project's choice) has one of three forms:
@@ -60,11 +61,12 @@
 //! The definitions are in `specs/`: `Scopes` (which table and column a name means, on which the written meaning stands
 //! as well), `Names` (the first fault of a tree, a fold over it); `Leaves` (a condition with its slots), `Columns`
 //! (which names may stand in it), `Results` (steps that end where a shape is outside the class); `Queries` (sources,
-//! row conditions, select lists), `Links` and `Forms`, which go step by step as the code does; and what is lent as what
-//! it shows: `ShownScopes`, `ShownLeaves`, `ShownSources`. That a form has the bad roots and the truth of its text, and
-//! that one is made exactly where the text is of the class, are laws of the crate `meaning`.
+//! row conditions, select lists), `Summaries`, `Links` and `Forms`, which go step by step as the code does; and what is
+//! lent as what it shows: `ShownScopes`, `ShownLeaves`, `ShownSources`. That a form has the bad roots and the truth of
+//! its text, and that one is made exactly where the text is of the class, are laws of the crate `meaning`.
 #![tactic(auto)]
 
+mod aggregates;
 mod forms;
 mod leaves;
 mod linked_queries;
@@ -73,10 +75,12 @@ mod plain_queries;
 mod queries;
 mod scopes;
 mod slots;
+mod summaries;
 mod trees;
 
 pub use forms::form;
 pub use leaves::{Columns, Leaf, numbered_condition, numbered_expression};
 pub use queries::{Source, row_condition, row_expression, row_filter};
 pub use scopes::{Scope, exposed_name};
+pub use summaries::{Summary, has_set_function, summary_expression};
 pub use trees::{look_up_condition, look_up_expression};

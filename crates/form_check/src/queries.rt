@@ -31,7 +31,8 @@ impl<'a> Source<'a> {
         table: &'a Text,
         correlation_name: &'a Option<Text>,
     ) -> Option<Source<'a>>
-        ensures { option_map shown_source result ≡ source_of catalog.now table.now correlation_name.now }
+        ensures source { option_map shown_source result ≡ source_of catalog.now table.now correlation_name.now }
+        ensures within { IfSome result (λ source. source.table < length catalog.now) }
     {
         Source::of_table(catalog, table, exposed_name(correlation_name, table))
     }

@@ -44,3 +44,11 @@ pub fn all_slots<S: Slots>(
     }
     Ok(Items::from_vec(made))
 }
+
+/// Refuses, and lets go what was made before. Its type is a parameter here, so that the callers' proofs do not go over
+/// its fields.
+pub fn drop_and_refuse<T: Drop, R>(refusal: Refusal, _made: T) -> Result<R, Refusal>
+    ensures { result ≡ Err refusal }
+{
+    Err(refusal)
+}

@@ -19,8 +19,6 @@ use Rattle.syntax.specs.declared.definitions.Attributes.{Attributes}
 use Rattle.syntax.specs.declared.statements.UpdateSource.{UpdateSource}
 use Rattle.syntax.specs.declared.statements.UpdateSource.TheVariants.{Null, To}
 use Rattle.syntax.specs.declared.statements.Assignment.{Assignment}
-use Rattle.syntax.specs.declared.statements.Which.{Which}
-use Rattle.syntax.specs.declared.statements.Which.TheVariants.{All, Names}
 use Rattle.form_check.specs.Scopes.{Scope}
 use Rattle.form_check.specs.Names.{condition_fault}
 use Rattle.value.specs.Results.{and_then, if_holds, unless}
@@ -31,22 +29,21 @@ use Rattle.assertcheck.specs.Forms.{is_typed_form}
 use Rattle.assertcheck.specs.Types.{is_typed_condition}
 use Rattle.assertcheck.specs.Widths.{is_bounded_form}
 use Rattle.assertcheck.specs.declared.deletes.Delete.{Delete}
-use Rattle.assertcheck.specs.declared.selects.Select.{Select}
 use Rattle.assertcheck.specs.declared.updates.Setting.{Setting}
 use Rattle.assertcheck.specs.declared.updates.Update.{Update}
 use Rattle.assertcheck.specs.Assertions.{are_at_odds, attributes_of, of_form, checked_assertion}
 use Rattle.assertcheck.specs.Conditions.{target_of, sound_condition, filter_fault, filter_of}
-use Rattle.assertcheck.specs.Statements.{delete_of, named_column, new_place, places_from, selected_places, select_of, unlisted_column}
+use Rattle.assertcheck.specs.Statements.{delete_of, named_column, new_place, unlisted_column}
 use Rattle.assertcheck.specs.Updates.{assignable, not_key, update_of, value_of, names_fault, assigned_places, settings_of, fits, is_bounded_setting, sound_update, update_over}
-use Rattle.meaning.specs.Meaning.{Reference, table_of, truth, passes, with_rows}
+use Rattle.meaning.specs.Meaning.{table_of, truth, passes, with_rows}
 use Rattle.meaning.specs.Laws as law
-use Rattle.meaning.specs.Laws.{reference_to, rows_by_filter, Pairs, IsPlaceOf, IsListOf, Gives, written_value, given_value}
+use Rattle.meaning.specs.Laws.{reference_to, rows_by_filter, Pairs, IsPlaceOf, Gives, written_value, given_value}
 use Rattle.form_check.proofs.Steps.{and_then_ok, ok_same}
 use Rattle.meaning.proofs.Rows.{row_expression_value, row_filter_keeps}
 use Rattle.meaning.proofs.Queries.{source_seen}
 use Rattle.meaning.proofs.Whole.{HasWrittenRoots-law, HasWrittenTruth-law, HasWrittenLeast-law}
 use Rattle.meaning.proofs.Grown.{KeepsForm-law}
-use Rattle.meaning.proofs.Classes.{none_is, each_pairs, form_class, class_form}
+use Rattle.meaning.proofs.Classes.{none_is, form_class, class_form}
 
 -- ---- assertions
 
@@ -135,11 +132,11 @@ where_filter tables scope condition restriction e =
     is ∙ same
 
 -- the rows that a resolved WHERE keeps of its table
-filtered_of : (tables : Tables) (state : State) (name : List ℕ) (condition : Option Condition) (target : Source) (restriction : Cond) → source_of tables name None ≡ Some target → row_filter target.scope condition ≡ Ok restriction
-    → rows_by_filter tables state name condition ≡ filtered_rows restriction (rows_of target.table state)
-filtered_of tables state name condition target restriction found is =
+pub filtered_of : (tables : Tables) (state : State) (name : List ℕ) (correlation_name : Option (List ℕ)) (condition : Option Condition) (target : Source) (restriction : Cond) → source_of tables name correlation_name ≡ Some target → row_filter target.scope condition ≡ Ok restriction
+    → rows_by_filter tables state name correlation_name condition ≡ filtered_rows restriction (rows_of target.table state)
+filtered_of tables state name correlation_name condition target restriction found is =
     let rows = rows_of target.table state in
-    ap (λ table. filter (λ row. passes (option_map (truth tables state) condition) (with_rows table (row ∷ []) [])) table.rows) (source_seen tables state name None target found)
+    ap (λ table. filter (λ row. passes (option_map (truth tables state) condition) (with_rows table (row ∷ []) [])) table.rows) (source_seen tables state name correlation_name target found)
     ∙ filter_agree (λ row. passes (option_map (truth tables state) condition) (with_rows (reference_to target.scope rows) (row ∷ []) [])) (λ row. resolved.keeps row [] restriction) (λ row. row_filter_keeps target.scope condition restriction is tables state row []) rows
 
 -- the parts of a DELETE that is taken
@@ -160,47 +157,10 @@ deletes tables name condition delete e =
 pub DeletesRows-law : law.DeletesRows
 DeletesRows-law tables name condition delete e state =
     let d = deletes tables name condition delete e in
-    filtered_of tables state name condition d.target d.restriction d.found d.keeps ∙ ap (λ (d : Delete). filtered_rows d.filter (rows_of d.table state)) d.made
-
--- the table of a statement
-scope_is : (tables : Tables) (state : State) (name : List ℕ) (target : Source) → source_of tables name None ≡ Some target → target.scope ≡ (table_of tables state name None).table
-scope_is tables state name target found = sym (ap (λ (r : Reference). r.table) (source_seen tables state name None target found))
-
--- the parts of a SELECT that is taken
-pub record Selects (tables : Tables) (columns : Which) (name : List ℕ) (condition : Option Condition) (select : Select) : Type 0 where
-  pub target : Source
-  pub found : source_of tables name None ≡ Some target
-  pub places : List ℕ
-  pub select_list : selected_places target.scope.layout.columns columns ≡ Ok places
-  pub restriction : Cond
-  pub keeps : row_filter target.scope condition ≡ Ok restriction
-  pub made : ◌≡◌ {A = Select} (record { table = target.table; columns = places; filter = restriction }) select
-
-pub selects : (tables : Tables) (columns : Which) (name : List ℕ) (condition : Option Condition) (select : Select) → select_of tables columns name condition ≡ Ok select → Selects tables columns name condition select
-selects tables columns name condition select e =
-    let make : Source → List ℕ → Cond → Select = λ target places restriction. record { table = target.table; columns = places; filter = restriction } in
-    let (target, (is, more)) = and_then_ok (target_of tables name) (λ target. and_then (selected_places target.scope.layout.columns columns) (λ places. and_then (filter_of tables target.scope condition) (λ restriction. let r : Result Select Refusal = Ok (make target places restriction) in r))) select e in
-    let (places, (are, rest)) = and_then_ok (selected_places target.scope.layout.columns columns) (λ places. and_then (filter_of tables target.scope condition) (λ restriction. let r : Result Select Refusal = Ok (make target places restriction) in r)) select more in
-    let (restriction, (keeps, makes)) = and_then_ok (filter_of tables target.scope condition) (λ restriction. let r : Result Select Refusal = Ok (make target places restriction) in r) select rest in
-    record { target = target; found = found_ok name (source_of tables name None) target is; places = places; select_list = are; restriction = restriction; keeps = where_filter tables target.scope condition restriction keeps; made = ok_same (make target places restriction) select makes }
-
-pub SelectsRows-law : law.SelectsRows
-SelectsRows-law tables columns name condition select e state =
-    let s = selects tables columns name condition select e in
-    filtered_of tables state name condition s.target s.restriction s.found s.keeps ∙ ap (λ (s : Select). filtered_rows s.filter (rows_of s.table state)) s.made
+    filtered_of tables state name None condition d.target d.restriction d.found d.keeps ∙ ap (λ (d : Delete). filtered_rows d.filter (rows_of d.table state)) d.made
 
 named_is : (scope : Scope) (name : List ℕ) (place : ℕ) → named_column scope.layout.columns name ≡ Ok place → IsPlaceOf scope name place
 named_is scope name place e = found_ok name (column_of name scope.layout.columns) place e
-
-selected_are : (scope : Scope) (columns : Which) (places : List ℕ) → selected_places scope.layout.columns columns ≡ Ok places → IsListOf scope columns places
-selected_are scope All places e = sym (ok_same (places_from 0 scope.layout.columns) places e)
-selected_are scope (Names names) places e = each_pairs (named_column scope.layout.columns) (IsPlaceOf scope) (named_is scope) names places e
-
-pub ListsColumns-law : law.ListsColumns
-ListsColumns-law tables columns name condition select e state =
-    let s = selects tables columns name condition select e in
-    subst (λ (made : Select). IsListOf (table_of tables state name None).table columns made.columns) s.made
-    (subst (λ scope. IsListOf scope columns s.places) (scope_is tables state name s.target s.found) (selected_are s.target.scope columns s.places s.select_list))
 
 -- the parts of an UPDATE that is taken
 pub record Updates (tables : Tables) (name : List ℕ) (sets : List Assignment) (condition : Option Condition) (update : Update) : Type 0 where
@@ -230,7 +190,7 @@ updates tables name sets condition update e =
 pub UpdatesRows-law : law.UpdatesRows
 UpdatesRows-law tables name sets condition update e state =
     let u = updates tables name sets condition update e in
-    filtered_of tables state name condition u.target u.restriction u.found u.keeps ∙ ap (λ (u : Update). filtered_rows u.filter (rows_of u.table state)) u.made
+    filtered_of tables state name None condition u.target u.restriction u.found u.keeps ∙ ap (λ (u : Update). filtered_rows u.filter (rows_of u.table state)) u.made
 
 -- a test that refuses, or else hands on
 not_refused : (b : Bool) (refusal : Refusal) (c d : ℕ) → ◌≡◌ {A = Result ℕ Refusal} (if b then Err refusal else Ok c) (Ok d) → c ≡ d

@@ -1,7 +1,8 @@
--- Worked rows: names, the written bad roots and truth of an assertion of each form, and the key of a WHERE, computed.
+-- Worked rows: names, the written bad roots and truth of an assertion of each form, what a SELECT gives, and the key of
+-- a WHERE, computed.
 use Rattle.std.proofs.Common.{◌≡◌, ℕ, pos, true, List, [], ◌∷◌, Option, Some, None, refl, ap, ◌∙◌, sym, inl, inr}
 use Rattle.std.proofs.lemmas.Option.{same_Some}
-use Rattle.std.specs.Prelude.{◌==◌, filter_map, find}
+use Rattle.std.specs.Prelude.{◌==◌, ◌||◌, false, filter_map, find, map}
 use Rattle.std.specs.Option.{option_or}
 use Rattle.value.specs.declared.values.Value.{Value}
 use Rattle.value.specs.declared.values.Value.TheVariants.{Null, Int}
@@ -36,6 +37,8 @@ use Rattle.syntax.specs.declared.trees.Condition.TheOpen.{Condition-F, Expressio
 use Rattle.syntax.specs.declared.trees.Expression.{Expression, roll-Expression, out-Expression, out-roll-Expression}
 use Rattle.syntax.specs.declared.trees.SelectList.{SelectList, roll-SelectList}
 use Rattle.syntax.specs.declared.trees.Query.{Query, roll-Query, out-roll-Query}
+use Rattle.syntax.specs.declared.statements.DerivedColumn.{DerivedColumn}
+use Rattle.syntax.specs.declared.statements.Select.{Select}
 use Rattle.syntax.specs.Grammar.{and_layer}
 use Rattle.form_check.specs.Scopes.{Scope}
 use Rattle.siread.specs.declared.keys.LockKey.{LockKey}
@@ -46,7 +49,7 @@ use Rattle.meaning.specs.Class.{IsColumnAt, IsOuterColumn, IsLink, IsLinkedWhere
 use Rattle.meaning.specs.Keys as keys
 use Rattle.meaning.specs.Meaning as written
 use Rattle.meaning.specs.Meaning.{References, Evaluation, Answer, answers, simple, first_value, column_values, rows_counted, set_of_column, only_value, is_any, written_bad_roots, written_truth}
-use Rattle.meaning.specs.Laws.{reference_to}
+use Rattle.meaning.specs.Laws.{reference_to, rows_by_filter, written_select}
 use Rattle.meaning.proofs.Classes.{of_link, link_over}
 use Rattle.meaning.proofs.Keys.{in_parts, where_key_is, shown_expr, shown_cond}
 use Rattle.meaning.proofs.Nodes.{clauses, clauses_as, number_is, column_is, count_is, set_is, value_is, compare_is, both_is, exists_is, denies_is, star_is, one_is, filtered_is, grouped_is}
@@ -306,6 +309,37 @@ single_unknown = single_truth nobody (roll-Expression (Expression-F.Aggregate fu
 
 single_satisfied : written_bad_roots both nobody (at_most (roll-Expression (Expression-F.Aggregate function.Sum (every I))) 4) ≡ []
 single_satisfied = single_roots nobody (roll-Expression (Expression-F.Aggregate function.Sum (every I))) 4 Unknown single_unknown
+
+-- ---- SELECT
+
+abbrev from_d : Option (List DerivedColumn) → Select
+from_d columns = record { columns = columns; table = D ∷ []; correlation_name = None; keeps = None }
+
+abbrev one_from_d : Expression → Select
+one_from_d e = from_d (Some (record { value = e; name = None } ∷ []))
+
+-- SELECT * FROM D
+every_column : written_select both week (from_d None) ≡ (number 1 ∷ number 7 ∷ number 1 ∷ []) ∷ (number 2 ∷ number 8 ∷ number 0 ∷ []) ∷ []
+every_column = refl
+
+-- SELECT e FROM D, by what e means
+one_given : (state : State) (e : Expression) (v : Evaluation) → written.evaluation_of both state e ≡ v
+    → written_select both state (one_from_d e) ≡ map (λ rows. v.value (written.with_rows (written.table_of both state (D ∷ []) None) rows []) ∷ []) (written.groups_of_rows None (v.sets || false) (rows_by_filter both state (D ∷ []) None None))
+one_given state e v is = ap (λ (v : Evaluation). map (λ rows. v.value (written.with_rows (written.table_of both state (D ∷ []) None) rows []) ∷ []) (written.groups_of_rows None (v.sets || false) (rows_by_filter both state (D ∷ []) None None))) is
+
+-- a column gives a row for each row, and so none where there is none
+one_column : written_select both week (one_from_d (column (bare S))) ≡ (number 7 ∷ []) ∷ (number 8 ∷ []) ∷ []
+one_column = one_given week (column (bare S)) (value_named (bare S)) (column_is both week (bare S))
+
+no_row : written_select both nobody (one_from_d (column (bare S))) ≡ []
+no_row = one_given nobody (column (bare S)) (value_named (bare S)) (column_is both nobody (bare S))
+
+-- a set function gives one row for all of them, also where there is none
+one_sum : written_select both week (one_from_d (roll-Expression (Expression-F.Aggregate function.Sum (every I)))) ≡ (number 3 ∷ []) ∷ []
+one_sum = one_given week (roll-Expression (Expression-F.Aggregate function.Sum (every I))) (record { sets = true; value = set_of_column function.Sum (every I) }) (set_is both week function.Sum (every I))
+
+count_of_none : written_select both nobody (one_from_d (roll-Expression Expression-F.CountRows)) ≡ (number 0 ∷ []) ∷ []
+count_of_none = one_given nobody (roll-Expression Expression-F.CountRows) (record { sets = true; value = rows_counted }) (count_is both nobody)
 
 -- ---- the link of two
 

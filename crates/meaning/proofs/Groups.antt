@@ -37,7 +37,7 @@ use Rattle.meaning.specs.Laws.{reference_to}
 use Rattle.form_check.proofs.Steps.{in_class_ok, ok_same}
 use Rattle.meaning.proofs.Numbering.{leaf_value, condition_faithful, at_place_means}
 use Rattle.meaning.proofs.Rows.{own_value, own_values, row_filter_keeps}
-use Rattle.meaning.proofs.Queries.{answers_by, each_leaf, set_function_of}
+use Rattle.meaning.proofs.Queries.{answers_by, each_gives, set_function_of}
 
 -- ---- lists
 
@@ -120,7 +120,7 @@ pub having_keeps : (tables : Tables) (state : State) (scope : names.Scope) (grou
 having_keeps tables state scope group having made leaves aggregates is are rows v named =
     let scopes : References = reference_to scope rows ∷ [] in
     let slots = map (λ a. aggregate a rows) aggregates in
-    let fits = each_leaf tables state scopes (aggregate_of scope) (λ a. aggregate a rows) (aggregate_leaf tables state scope rows) leaves aggregates are ∙ sym (append-nil (map (leaf_value tables state scopes) leaves)) in
+    let fits = each_gives (aggregate_of scope) (leaf_value tables state scopes) (λ a. aggregate a rows) (aggregate_leaf tables state scope rows) leaves aggregates are ∙ sym (append-nil (map (leaf_value tables state scopes) leaves)) in
     (condition_faithful tables state scopes (v ∷ []) slots (at_place (grouping_column scope group)) (at_place_means tables state scopes (v ∷ []) slots (grouping_column scope group) (group_value scope group v rows named)) having [] made leaves is ([], fits)).0
 
 -- ---- the roots

@@ -13,6 +13,7 @@ pub mod Standing
 pub mod Parts
 pub mod Grown
 pub mod Checked
+pub mod Selects
 pub mod Classes
 pub mod Keys
 pub mod CheckKeys

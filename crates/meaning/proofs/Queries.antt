@@ -3,7 +3,6 @@ use Rattle.std.proofs.Common.{◌≡◌, ℕ, true, Option, Some, None, Result, 
 use Rattle.std.specs.Prelude.{◌||◌, is_some, unwrap_or, option_map}
 use Rattle.std.proofs.lemmas.List.Elements.{filter_agree}
 use Rattle.std.proofs.lemmas.Option.{same_Some}
-use Rattle.value.specs.declared.values.Value.{Value}
 use Rattle.value.specs.declared.values.Value.TheVariants.{Null}
 use Rattle.value.specs.declared.refusals.Refusal.{Refusal}
 use Rattle.value.specs.declared.truths.Truth.{Truth}
@@ -31,7 +30,7 @@ use Rattle.syntax.specs.declared.trees.Query.{Query, out-Query}
 use Rattle.form_check.specs.Scopes as names
 use Rattle.form_check.specs.Scopes.{own_column}
 use Rattle.value.specs.Results.{and_then, each}
-use Rattle.form_check.specs.Leaves.{Leaf, Leaves, Rows, Of, Exists, Value as Worth}
+use Rattle.form_check.specs.Leaves.{Leaf, Rows, Of, Exists, Value as Worth}
 use Rattle.form_check.specs.Queries.{Source, source_named, source_of, row_filter, of_column, aggregate_in, aggregate_selected, selected_aggregate}
 use Rattle.form_check.specs.Forms.{Clauses, plain, plain_by, plain_value}
 use Rattle.meaning.specs.Meaning as written
@@ -186,11 +185,11 @@ plain_leaf tables state scopes (Of f column) p e = cc
 plain_leaf tables state scopes (Exists query) p e = cc
 plain_leaf tables state scopes (Worth query) p e = plain_is tables state scopes query p e
 
--- slots one after the other
-pub each_leaf : {Q : Type 0} (tables : Tables) (state : State) (scopes : References) (make : Leaf → Result Q Refusal) (gives : Q → Value) → ((leaf : Leaf) (q : Q) → make leaf ≡ Ok q → leaf_value tables state scopes leaf ≡ gives q)
-    → (leaves : Leaves) (queries : List Q) → each make leaves ≡ Ok queries → map gives queries ≡ map (leaf_value tables state scopes) leaves
-each_leaf {Q = Q} tables state scopes make gives one [] queries e = let none : List Q = [] in ap (map gives) (sym (ok_same none queries e))
-each_leaf {Q = Q} tables state scopes make gives one (leaf ∷ leaves) queries e =
-    let (first, (is, more)) = and_then_ok (make leaf) (λ first. and_then (each make leaves) (λ others. let r : Result (List Q) Refusal = Ok (first ∷ others) in r)) queries e in
-    let (others, (are, makes)) = and_then_ok (each make leaves) (λ others. let r : Result (List Q) Refusal = Ok (first ∷ others) in r) queries more in
-    ap (map gives) (sym (ok_same (first ∷ others) queries makes)) ∙ ap (λ v. v ∷ map gives others) (sym (one leaf first is)) ∙ ap (λ vs. leaf_value tables state scopes leaf ∷ vs) (each_leaf tables state scopes make gives one leaves others are)
+-- values of parts one after the other
+pub each_gives : {X A V : Type 0} (make : X → Result A Refusal) (value : X → V) (gives : A → V) → ((x : X) (a : A) → make x ≡ Ok a → value x ≡ gives a)
+    → (xs : List X) (made : List A) → each make xs ≡ Ok made → map gives made ≡ map value xs
+each_gives {A = A} make value gives one [] made e = let none : List A = [] in ap (map gives) (sym (ok_same none made e))
+each_gives {A = A} make value gives one (x ∷ xs) made e =
+    let (first, (is, more)) = and_then_ok (make x) (λ first. and_then (each make xs) (λ others. let r : Result (List A) Refusal = Ok (first ∷ others) in r)) made e in
+    let (others, (are, makes)) = and_then_ok (each make xs) (λ others. let r : Result (List A) Refusal = Ok (first ∷ others) in r) made more in
+    ap (map gives) (sym (ok_same (first ∷ others) made makes)) ∙ ap (λ v. v ∷ map gives others) (sym (one x first is)) ∙ ap (λ vs. value x ∷ vs) (each_gives make value gives one xs others are)

@@ -30,7 +30,7 @@ use Rattle.meaning.specs.Laws.{reference_to}
 use Rattle.form_check.proofs.Steps.{ok_pair}
 use Rattle.meaning.proofs.Numbering.{leaf_value, condition_faithful, truth-And}
 use Rattle.meaning.proofs.Rows.{own_means}
-use Rattle.meaning.proofs.Queries.{answers_by, each_leaf}
+use Rattle.meaning.proofs.Queries.{answers_by, each_gives}
 use Rattle.meaning.proofs.Links.{linked_leaf, is_plain}
 
 -- ---- the place of a table
@@ -73,7 +73,7 @@ row_filtered tables state root None made leaves queries is are row =
 row_filtered tables state root (Some condition) made leaves queries is are row =
     let scopes : References = reference_to root (row ∷ []) ∷ [] in
     let slots = map (linked_answer state row) queries in
-    let fits = each_leaf tables state scopes (slot_query_of tables root) (linked_answer state row) (linked_leaf tables state root row) leaves queries are ∙ sym (append-nil (map (leaf_value tables state scopes) leaves)) in
+    let fits = each_gives (slot_query_of tables root) (leaf_value tables state scopes) (linked_answer state row) (linked_leaf tables state root row) leaves queries are ∙ sym (append-nil (map (leaf_value tables state scopes) leaves)) in
     ap (λ t. is_of t True) (condition_faithful tables state scopes row slots (at_place (own_column root)) (own_means tables state root row slots []) condition [] made leaves is ([], fits)).0
 
 one_row : (f : List RowValues → Answer) (key : RowValues → Value) (g : Answer → Root) → ((row : RowValues) → g (f (row ∷ [])) ≡ Of (key row)) → (rows : List RowValues) → map g (map f (filter (λ rows. true) (map (λ row. row ∷ []) rows))) ≡ map (λ row. Of (key row)) rows

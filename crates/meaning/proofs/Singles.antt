@@ -14,10 +14,10 @@ use Rattle.form_check.specs.Forms.{single, plain}
 use Rattle.meaning.specs.Meaning.{References, column_values, first_value, written_truth}
 use Rattle.meaning.proofs.Made.{single_made}
 use Rattle.meaning.proofs.Numbering.{leaf_value, condition_faithful, at_place_means}
-use Rattle.meaning.proofs.Queries.{plain_leaf, each_leaf}
+use Rattle.meaning.proofs.Queries.{plain_leaf, each_gives}
 
-no_column_means : (row : RowValues) (column : ColumnName) (c : ℕ) → no_column column ≡ Some c → first_value (column_values column []) ≡ value_in c row
-no_column_means row column c e = cc
+pub no_column_means : (scopes : References) (row : RowValues) (column : ColumnName) (c : ℕ) → no_column column ≡ Some c → first_value (column_values column scopes) ≡ value_in c row
+no_column_means scopes row column c e = cc
 
 -- what a single condition becomes, and that it has its truth
 pub single_is : (tables : Tables) (condition : Condition) (form : Form) → single tables condition ≡ Ok form
@@ -33,8 +33,8 @@ single_is tables condition form e =
           m.is,
           λ state.
               let slots = map (plain_answer state) m.queries in
-              let fits = each_leaf tables state none (plain tables) (plain_answer state) (plain_leaf tables state none) m.leaves m.queries m.are ∙ sym (append-nil (map (leaf_value tables state none) m.leaves)) in
-              (condition_faithful tables state none row slots (at_place no_column) (at_place_means tables state none row slots no_column (no_column_means row)) condition [] m.made m.leaves m.numbers ([], fits)).0,
+              let fits = each_gives (plain tables) (leaf_value tables state none) (plain_answer state) (plain_leaf tables state none) m.leaves m.queries m.are ∙ sym (append-nil (map (leaf_value tables state none) m.leaves)) in
+              (condition_faithful tables state none row slots (at_place no_column) (at_place_means tables state none row slots no_column (no_column_means none row)) condition [] m.made m.leaves m.numbers ([], fits)).0,
         ),
       ),
     )

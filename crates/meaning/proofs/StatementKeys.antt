@@ -25,13 +25,14 @@ use Rattle.meaning.specs.Keys.{IsWrittenKey, SelectReads, DeleteReads, UpdateRea
 use Rattle.meaning.proofs.Whole.{key_at}
 use Rattle.meaning.proofs.Keys.{WhereReads-law}
 use Rattle.meaning.proofs.CheckKeys.{table_is}
-use Rattle.meaning.proofs.Checked.{deletes, selects, updates}
+use Rattle.meaning.proofs.Checked.{deletes, updates}
+use Rattle.meaning.proofs.Selects.{selects}
 
 -- the key of a resolved WHERE
-key_read : (tables : Tables) (name : List ℕ) (condition : Option Condition) (target : Source) (restriction : Cond) → source_of tables name None ≡ Some target → row_filter target.scope condition ≡ Ok restriction
-    → IsWrittenKey tables name condition (filter_key target.table (key_of target.table (layouts_of tables)) restriction)
-key_read tables name condition target restriction found is =
-    (target.table, target.scope, table_is tables name None target found, ap (λ key. filter_key target.table key restriction) (key_at tables name None target found) ∙ WhereReads-law target.scope condition restriction is target.table)
+key_read : (tables : Tables) (name : List ℕ) (correlation_name : Option (List ℕ)) (condition : Option Condition) (target : Source) (restriction : Cond) → source_of tables name correlation_name ≡ Some target → row_filter target.scope condition ≡ Ok restriction
+    → IsWrittenKey tables name correlation_name condition (filter_key target.table (key_of target.table (layouts_of tables)) restriction)
+key_read tables name correlation_name condition target restriction found is =
+    (target.table, target.scope, table_is tables name correlation_name target found, ap (λ key. filter_key target.table key restriction) (key_at tables name correlation_name target found) ∙ WhereReads-law target.scope condition restriction is target.table)
 
 -- a check that refuses has read the same
 checks_read_same : (o : Option Refusal) (effect : Effect) (before after : Standing) (reads : List LockKey) → (unless_violated o effect.reply before after reads).reads ≡ reads
@@ -48,12 +49,12 @@ effect_reads declared now read (Ok effect) =
     (checks, checks_read_same (violation (layouts_in declared) ones view) effect now (record { view = view; modes = now.modes }) (read ∷ checks))
 
 pub SelectReads-law : SelectReads
-SelectReads-law declared read_only start now columns name condition select e =
+SelectReads-law declared read_only start now written select e =
     let tables = declared.tables in
-    let s = selects tables columns name condition select e in
+    let s = selects tables written select e in
     let read = filter_key select.table (key_of select.table (layouts_of tables)) select.filter in (
       read,
-      subst (λ (s : Select). IsWrittenKey tables name condition (filter_key s.table (key_of s.table (layouts_of tables)) s.filter)) s.made (key_read tables name condition s.target s.restriction s.found s.keeps),
+      subst (λ (s : Select). IsWrittenKey tables written.table written.correlation_name written.keeps (filter_key s.table (key_of s.table (layouts_of tables)) s.filter)) s.made (key_read tables written.table written.correlation_name written.keeps s.target s.restriction s.found s.keeps),
       ap (λ r. (step_alone declared start now (statement_or_refusal statement.Select r)).reads) e,
     )
 
@@ -66,7 +67,7 @@ DeleteReads-law declared start now name condition delete e =
     let (checks, reads) = effect_reads declared now read (Ok (delete_effect delete.table (key_of delete.table layouts) (found_rows now.view delete.table delete.filter))) in (
       read,
       checks,
-      subst (λ (d : Delete). IsWrittenKey tables name condition (filter_key d.table (key_of d.table (layouts_of tables)) d.filter)) d.made (key_read tables name condition d.target d.restriction d.found d.keeps),
+      subst (λ (d : Delete). IsWrittenKey tables name None condition (filter_key d.table (key_of d.table (layouts_of tables)) d.filter)) d.made (key_read tables name None condition d.target d.restriction d.found d.keeps),
       ap (λ r. (step_alone declared start now (statement_or_refusal statement.Delete r)).reads) e ∙ reads,
     )
 
@@ -80,7 +81,7 @@ UpdateReads-law declared start now name sets condition update e =
     let (checks, reads) = effect_reads declared now read effect in (
       read,
       checks,
-      subst (λ (u : Update). IsWrittenKey tables name condition (filter_key u.table (key_of u.table (layouts_of tables)) u.filter)) u.made (key_read tables name condition u.target u.restriction u.found u.keeps),
+      subst (λ (u : Update). IsWrittenKey tables name None condition (filter_key u.table (key_of u.table (layouts_of tables)) u.filter)) u.made (key_read tables name None condition u.target u.restriction u.found u.keeps),
       ap (λ r. (step_alone declared start now (statement_or_refusal statement.Update r)).reads) e
           ∙ ap (λ b. (unless_key b (KeyUpdate (key_name layouts update.table)) now (step_of_effect declared now (read ∷ []) effect)).reads) (checked_keyless tables name sets condition update e)
           ∙ reads,

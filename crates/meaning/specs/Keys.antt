@@ -20,7 +20,7 @@ use Rattle.syntax.specs.declared.trees.Query.{Query, out-Query}
 use Rattle.syntax.specs.Grammar.{and_layer}
 use Rattle.syntax.specs.declared.statements.Assignment.{Assignment}
 use Rattle.syntax.specs.declared.statements.Statement.TheVariants as statement
-use Rattle.syntax.specs.declared.statements.Which.{Which}
+use Rattle.syntax.specs.declared.statements.Select.{Select as Written}
 use Rattle.assertion.specs.declared.forms.Form.{Form}
 use Rattle.assertion.specs.Declarations.{Declared}
 use Rattle.assertion.specs.Meaning.{State, rows_of}
@@ -31,7 +31,8 @@ use Rattle.form_check.specs.Queries.{row_filter}
 use Rattle.assertcheck.specs.declared.deletes.Delete.{Delete}
 use Rattle.assertcheck.specs.declared.selects.Select.{Select}
 use Rattle.assertcheck.specs.declared.updates.Update.{Update}
-use Rattle.assertcheck.specs.Statements.{delete_of, select_of}
+use Rattle.assertcheck.specs.Selects.{select_of}
+use Rattle.assertcheck.specs.Statements.{delete_of}
 use Rattle.assertcheck.specs.Updates.{update_of}
 use Rattle.siread.specs.declared.keys.LockKey.{LockKey}
 use Rattle.siread.specs.declared.keys.LockKey.TheVariants as key
@@ -93,9 +94,10 @@ pub record IsTable (tables : Tables) (name : List ℕ) (correlation_name : Optio
   pub reads : read_by tables name correlation_name ≡ Some scope
 
 -- the key of a statement's table and WHERE
-abbrev pub IsWrittenKey : Tables → List ℕ → Option Condition → LockKey → Type 0
-IsWrittenKey tables name condition read =
-    (table : ℕ) × (scope : Scope) × IsTable tables name None table scope × (read ≡ written_key table scope condition)
+abbrev pub IsWrittenKey : Tables → List ℕ → Option (List ℕ) → Option Condition → LockKey → Type 0
+IsWrittenKey tables name correlation_name condition read =
+    (table : ℕ) × (scope : Scope) × IsTable tables name correlation_name table scope
+    × (read ≡ written_key table scope condition)
 
 -- ---- checks of assertions
 
@@ -228,17 +230,17 @@ WhereReads = (scope : Scope) (condition : Option Condition) (made : Cond) → ro
 -- in one that is not, before what their checks read
 abbrev pub StepReads : Tables → List ℕ → Option Condition → Step → Type 0
 StepReads tables name condition step =
-    (read : LockKey) × (checks : List LockKey) × IsWrittenKey tables name condition read × (step.reads ≡ read ∷ checks)
+    (read : LockKey) × (checks : List LockKey) × IsWrittenKey tables name None condition read
+    × (step.reads ≡ read ∷ checks)
 
 -- a SELECT that is taken reads under the key of its text, and nothing else
 abbrev pub SelectReads : Type 0
 SelectReads = (declared : Declared) (read_only : Bool) (start : State) (now : Standing)
-    → (columns : Which) (name : List ℕ) (condition : Option Condition) (select : Select)
-    → select_of declared.tables columns name condition ≡ Ok select
-    → (read : LockKey) × IsWrittenKey declared.tables name condition read
-    × ((step_alone declared start now
-    (resolution_of declared read_only (statement.Select columns name condition))).reads
-    ≡ read ∷ [])
+    → (written : Written) (select : Select)
+    → select_of declared.tables written ≡ Ok select
+    → (read : LockKey)
+    × IsWrittenKey declared.tables written.table written.correlation_name written.keeps read
+    × ((step_alone declared start now (resolution_of declared read_only (statement.Select written))).reads ≡ read ∷ [])
 
 -- a DELETE that is taken, where the transaction may write, reads under the key of its text before its checks
 abbrev pub DeleteReads : Type 0

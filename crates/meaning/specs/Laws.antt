@@ -1,5 +1,5 @@
 -- The laws of what is written and what is resolved.
-use Rattle.std.specs.Prelude.{◌≡◌, ◌↔◌, ℕ, Contains, IsNone, IsTrue, List, [], ◌∷◌, ◌++◌, filter}
+use Rattle.std.specs.Prelude.{◌≡◌, ◌↔◌, ℕ, Bool, false, Contains, IsNone, IsTrue, List, [], ◌∷◌, ◌++◌, filter, map}
 use Rattle.std.specs.Prelude.{Option, Some, None, option_map, Ok}
 use Rattle.std.specs.Bool.{IsFalse}
 use Rattle.value.specs.declared.values.Value.{Value}
@@ -20,8 +20,8 @@ use Rattle.syntax.specs.declared.definitions.Attributes.{Attributes}
 use Rattle.syntax.specs.declared.statements.UpdateSource.{UpdateSource}
 use Rattle.syntax.specs.declared.statements.UpdateSource.TheVariants.{Null, To}
 use Rattle.syntax.specs.declared.statements.Assignment.{Assignment}
-use Rattle.syntax.specs.declared.statements.Which.{Which}
-use Rattle.syntax.specs.declared.statements.Which.TheVariants.{All, Names}
+use Rattle.syntax.specs.declared.statements.DerivedColumn.{DerivedColumn}
+use Rattle.syntax.specs.declared.statements.Select.{Select as Written}
 use Rattle.form_check.specs.Scopes.{Scope, named_in}
 use Rattle.form_check.specs.Names.{condition_fault}
 use Rattle.form_check.specs.Forms.{form_of}
@@ -33,10 +33,13 @@ use Rattle.assertcheck.specs.declared.selects.Select.{Select}
 use Rattle.assertcheck.specs.declared.updates.Setting.{Setting}
 use Rattle.assertcheck.specs.declared.updates.Update.{Update}
 use Rattle.assertcheck.specs.Assertions.{are_at_odds, attributes_of, checked_assertion}
-use Rattle.assertcheck.specs.Statements.{delete_of, places_from, select_of}
+use Rattle.assertcheck.specs.Selects.{select_of}
+use Rattle.assertcheck.specs.Statements.{delete_of, places_from}
 use Rattle.assertcheck.specs.Updates.{update_of}
+use Rattle.alone.specs.Statements.{listed_rows}
 use Rattle.meaning.specs.Class.{Each, IsInClass, IsLinkedWhere, IsOverBoth, JoinsRow}
 use Rattle.meaning.specs.Meaning.{Reference, References, truth, evaluation_of, passes, with_rows, table_of}
+use Rattle.meaning.specs.Meaning.{any_sets, first_value, groups_of_rows, values_at}
 use Rattle.meaning.specs.Meaning.{written_truth, written_bad_roots, written_least}
 
 -- a table as names see it, with rows at hand
@@ -151,24 +154,45 @@ TakesExactly = (tables : Tables) (name : List ℕ) (condition : Condition) (attr
 -- ---- statements
 
 -- the rows of a table for which a WHERE is true, as it is written
-abbrev pub rows_by_filter : Tables → State → List ℕ → Option Condition → List RowValues
-rows_by_filter tables state name condition =
-    let table = table_of tables state name None in
+abbrev pub rows_by_filter : Tables → State → List ℕ → Option (List ℕ) → Option Condition → List RowValues
+rows_by_filter tables state name correlation_name condition =
+    let table = table_of tables state name correlation_name in
     filter (λ row. passes (option_map (truth tables state) condition) (with_rows table (row ∷ []) [])) table.rows
 
--- a DELETE, a SELECT and an UPDATE are of the rows that their WHERE says
+-- a DELETE is of the rows that its WHERE says
 abbrev pub DeletesRows : Type 0
 DeletesRows = (tables : Tables) (name : List ℕ) (condition : Option Condition) (delete : Delete)
     → delete_of tables name condition ≡ Ok delete
     → (state : State)
-    → rows_by_filter tables state name condition ≡ filtered_rows delete.filter (rows_of delete.table state)
+    → rows_by_filter tables state name None condition ≡ filtered_rows delete.filter (rows_of delete.table state)
 
--- a SELECT lists the rows that its WHERE says
-abbrev pub SelectsRows : Type 0
-SelectsRows = (tables : Tables) (columns : Which) (name : List ℕ) (condition : Option Condition) (select : Select)
-    → select_of tables columns name condition ≡ Ok select
+-- what a SELECT lists of some rows at hand, as it is written: its derived columns, or for * those of its table (7.9)
+abbrev pub written_columns : Tables → State → Reference → Option (List DerivedColumn) → List RowValues → RowValues
+written_columns tables state table None rows =
+    map (λ place. first_value (values_at (Some place) rows)) (places_from 0 table.table.layout.columns)
+written_columns tables state table (Some columns) rows =
+    map (λ column. (evaluation_of tables state column.value).value (with_rows table rows [])) columns
+
+-- whether a set function stands in what a SELECT lists
+abbrev pub lists_sets : Tables → State → Option (List DerivedColumn) → Bool
+lists_sets tables state None = false
+lists_sets tables state (Some columns) = any_sets (map (λ column. evaluation_of tables state column.value) columns)
+
+-- the rows that a SELECT gives, as it is written: its list of each row that its WHERE says, or, where a set function
+-- stands in it, of all of them together
+abbrev pub written_select : Tables → State → Written → List RowValues
+written_select tables state select =
+    map (written_columns tables state (table_of tables state select.table select.correlation_name) select.columns)
+    (groups_of_rows None (lists_sets tables state select.columns)
+    (rows_by_filter tables state select.table select.correlation_name select.keeps))
+
+-- a SELECT gives the rows that are written
+abbrev pub SelectsWritten : Type 0
+SelectsWritten = (tables : Tables) (written : Written) (select : Select)
+    → select_of tables written ≡ Ok select
     → (state : State)
-    → rows_by_filter tables state name condition ≡ filtered_rows select.filter (rows_of select.table state)
+    → written_select tables state written
+    ≡ listed_rows select.listing (filtered_rows select.filter (rows_of select.table state))
 
 -- an UPDATE changes the rows that its WHERE says
 abbrev pub UpdatesRows : Type 0
@@ -176,7 +200,7 @@ UpdatesRows = (tables : Tables) (name : List ℕ) (sets : List Assignment) (cond
     → (update : Update)
     → update_of tables name sets condition ≡ Ok update
     → (state : State)
-    → rows_by_filter tables state name condition ≡ filtered_rows update.filter (rows_of update.table state)
+    → rows_by_filter tables state name None condition ≡ filtered_rows update.filter (rows_of update.table state)
 
 -- two lists are as long as each other, and so is each pair of them
 abbrev pub Pairs : {X Y : Type 0} → (X → Y → Type 0) → List X → List Y → Type 0
@@ -188,17 +212,6 @@ Pairs P (x ∷ xs) (y ∷ ys) = P x y × Pairs P xs ys
 -- a name is of the column at a place of a table
 abbrev pub IsPlaceOf : Scope → List ℕ → ℕ → Type 0
 IsPlaceOf scope name place = named_in name scope ≡ Some place
-
--- the columns of a select list (7.9): those that are named, in their order, and for * all in the table's
-abbrev pub IsListOf : Scope → Which → List ℕ → Type 0
-IsListOf scope All places = places ≡ places_from 0 scope.layout.columns
-IsListOf scope (Names names) places = Pairs (IsPlaceOf scope) names places
-
--- a SELECT lists the columns that are written
-abbrev pub ListsColumns : Type 0
-ListsColumns = (tables : Tables) (columns : Which) (name : List ℕ) (condition : Option Condition) (select : Select)
-    → select_of tables columns name condition ≡ Ok select
-    → (state : State) → IsListOf (table_of tables state name None).table columns select.columns
 
 -- the value that an UPDATE writes for a column of a row, over the row as it was (13.10)
 abbrev pub written_value : Tables → State → Reference → UpdateSource → RowValues → Value

@@ -3,7 +3,7 @@
 ghost use Rattle.meaning.specs.Keys.{CheckReads, DeleteReads, HasOneLink, SelectReads, UpdateReads};
 ghost use Rattle.meaning.specs.Keys.{VerdictReads, WhereReads};
 ghost use Rattle.meaning.specs.Laws.{GivesValues, KeepsRows};
-ghost use Rattle.meaning.specs.Laws.{DeletesRows, ListsColumns, SelectsRows, UpdatesColumns, UpdatesRows};
+ghost use Rattle.meaning.specs.Laws.{DeletesRows, SelectsWritten, UpdatesColumns, UpdatesRows};
 ghost use Rattle.meaning.specs.Laws.{HasALink, HasFormInClass, HasWrittenLeast, HasWrittenRoots};
 ghost use Rattle.meaning.specs.Laws.{HasWrittenTruth, KeepsForm};
 ghost use Rattle.meaning.specs.Laws.{StaysWritten, TakesExactly, TakesWritten};
@@ -15,12 +15,12 @@ pub fn rows_are_as_written()
     ensures expressions { GivesValues }
 {}
 
-/// A DELETE, a SELECT and an UPDATE that are taken are of the rows for which their WHERE is true as it is written. A
-/// SELECT lists the columns that are written, and an UPDATE gives the columns that are written the written values.
+/// A DELETE and an UPDATE that are taken are of the rows for which their WHERE is true as it is written, and the UPDATE
+/// gives the columns that are written the written values. A SELECT gives the rows that are written: its list of each
+/// row for which its WHERE is true, or of all of them together where a set function stands in it.
 pub fn statements_keep_written_rows()
     ensures delete { DeletesRows }
-    ensures select { SelectsRows }
-    ensures list { ListsColumns }
+    ensures select { SelectsWritten }
     ensures update { UpdatesRows }
     ensures columns { UpdatesColumns }
 {}

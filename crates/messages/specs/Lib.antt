@@ -4,5 +4,6 @@ pub mod Requests
 pub mod Statuses
 pub mod Replies
 pub mod Spelling
+pub mod Columns
 pub mod Reading
 pub mod Refusals

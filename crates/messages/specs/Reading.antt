@@ -1,6 +1,7 @@
 -- What stands in front of bytes: a field and the bytes behind it, or nothing where they are too few or of no kind.
 use Rattle.std.specs.Prelude.{◌≡◌, ℕ, zero, suc, ℤ, pos, negsuc, ◌-◌, List, [], ◌∷◌, length, take, drop, Option, Some, None, Result, Ok, Err, nat_lt, ◌==◌, if◌then◌else◌}
 use Rattle.std.specs.Int.{w64, from_le_bytes}
+use Rattle.std.specs.Str.Parse.{signed_digits_value}
 use Rattle.value.specs.declared.values.Value.{Value}
 use Rattle.value.specs.declared.values.Value.TheVariants.{Null, Int, Text}
 use Rattle.messages.specs.declared.faults.FieldFault.{FieldFault}
@@ -47,6 +48,17 @@ value_at (suc (suc zero) ∷ rest) = do
   t ← text_at rest
   Some (Text t.0, t.1)
 value_at (suc (suc (suc b)) ∷ rest) = None
+
+-- a number past 64 bits, by its decimal digits
+unfoldable pub large_number_at : List ℕ → Option (Value × List ℕ)
+large_number_at bytes = do
+  digits ← text_at bytes
+  Some (Int (signed_digits_value 10 digits.0), digits.1)
+
+-- a value of a listed row, by the byte of its kind
+unfoldable pub listed_value_at : List ℕ → Option (Value × List ℕ)
+listed_value_at [] = None
+listed_value_at (b ∷ rest) = if b == 5 then large_number_at rest else value_at (b ∷ rest)
 
 -- so many fields of a kind, one behind the other
 unfoldable pub many_in : {A : Type 0} → (List ℕ → Option (A × List ℕ)) → ℕ → List ℕ → Option (List A × List ℕ)

@@ -1,8 +1,8 @@
 -- The bytes of each reply. The first is its kind.
-use Rattle.std.specs.Prelude.{ℕ, Bool, true, false, List, [], ◌∷◌, ◌++◌, codes, if◌then◌else◌}
+use Rattle.std.specs.Prelude.{ℕ, Bool, true, false, List, [], ◌∷◌, ◌++◌, map, codes, Option, Some, None, if◌then◌else◌}
 use Rattle.value.specs.declared.refusals.Refusal.{Refusal}
 use Rattle.table.specs.declared.schemas.Column.{Column}
-use Rattle.syntax.specs.declared.statements.Which.TheVariants as which
+use Rattle.syntax.specs.declared.statements.DerivedColumn.{DerivedColumn}
 use Rattle.syntax.specs.declared.statements.Statement.TheVariants as statement
 use Rattle.syntax.specs.declared.statements.Event.{Event}
 use Rattle.syntax.specs.declared.statements.Event.TheVariants as event
@@ -13,6 +13,7 @@ use Rattle.alone.specs.declared.answers.Answer.{Answer}
 use Rattle.alone.specs.declared.answers.Answer.TheVariants as answer
 use Rattle.report.specs.Report.{answer_line, is_commit, refusal_line}
 use Rattle.messages.specs.Refusals.{refusal_parts}
+use Rattle.messages.specs.Columns.{derived_name}
 use Rattle.messages.specs.Spelling.{columns, names, number, rows, text, truth}
 use Rattle.messages.specs.declared.responses.Misuse.{Misuse}
 use Rattle.messages.specs.declared.responses.Misuse.TheVariants as misuse
@@ -41,9 +42,14 @@ misuse_reply (misuse.WrongCount wanted) = number_reply 16 wanted
 misuse_reply (misuse.BadValue parameter) = number_reply 16 parameter
 misuse_reply other = 0 ∷ []
 
--- the columns that a SELECT names; those of its table, where it lists all
+-- the names of derived columns; those of the table's columns, where none are written
+abbrev pub column_names : List Column → Option (List DerivedColumn) → List ℕ
+column_names all None = columns all
+column_names all (Some derived) = names (map derived_name derived)
+
+-- the names of the columns that a SELECT lists
 abbrev pub listed_columns : List Column → Event → List ℕ
-listed_columns all (event.Run (statement.Select (which.Names ns) table keeps)) = names ns
+listed_columns all (event.Run (statement.Select select)) = column_names all select.columns
 listed_columns all other = columns all
 
 -- the reply of a statement that was not refused

@@ -1,5 +1,6 @@
 -- How numbers, texts, values and rows are spelled in bytes.
-use Rattle.std.specs.Prelude.{◌<◌, ◌^◌, ℕ, ℤ, pos, negsuc, ◌-◌, List, [], ◌∷◌, ◌++◌, length, ⊤}
+use Rattle.std.specs.Prelude.{◌<◌, ◌^◌, ℕ, ℤ, pos, negsuc, ◌-◌, Bool, nat_lt, List, [], ◌∷◌, ◌++◌, length, ⊤, if◌then◌else◌}
+use Rattle.std.specs.Fmt.{signed_decimal}
 use Rattle.std.specs.Int.{w64, to_le_bytes}
 use Rattle.value.specs.declared.values.Value.{Value}
 use Rattle.value.specs.declared.values.Value.TheVariants.{Null, Int, Text}
@@ -36,6 +37,28 @@ IsSpelled (Int (pos n)) = n < 2 ^ 63
 IsSpelled (Int (negsuc n)) = n < 2 ^ 63
 IsSpelled (Text bytes) = length bytes < 2 ^ 64
 
+-- whether a number is one of 64 bits with its sign
+abbrev pub is_of_64_bits : ℤ → Bool
+is_of_64_bits (pos n) = nat_lt n 9223372036854775808
+is_of_64_bits (negsuc n) = nat_lt n 9223372036854775808
+
+-- a number that a SELECT lists: one that passes 64 bits is of a kind of its own, by its decimal digits
+abbrev pub listed_number : ℤ → List ℕ
+listed_number n = if is_of_64_bits n then value (Int n) else 5 ∷ text (signed_decimal n)
+
+-- a value that a SELECT lists
+abbrev pub listed_value : Value → List ℕ
+listed_value Null = value Null
+listed_value (Int n) = listed_number n
+listed_value (Text bytes) = value (Text bytes)
+
+-- a value that these bytes can hold: a number of 128 bits with its sign, a text whose length is one of 64 bits
+abbrev pub IsListed : Value → Type 0
+IsListed Null = ⊤
+IsListed (Int (pos n)) = n < 2 ^ 127
+IsListed (Int (negsuc n)) = n < 2 ^ 127
+IsListed (Text bytes) = length bytes < 2 ^ 64
+
 -- a root: the value of a row's key or of a group, or the whole
 abbrev pub root : Root → List ℕ
 root All = 3 ∷ []
@@ -50,7 +73,7 @@ truth Unknown = number 2
 -- the values of a row, with no count in front
 abbrev pub row : RowValues → List ℕ
 row [] = []
-row (v ∷ vs) = value v ++ row vs
+row (v ∷ vs) = listed_value v ++ row vs
 
 -- the rows, one behind the other
 abbrev pub each_row : List RowValues → List ℕ

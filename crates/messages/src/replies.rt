@@ -6,10 +6,10 @@ ghost use Rattle.messages.specs.Replies as spec;
 
 use crate::lines::line_of;
 use crate::responses::{Misuse, Response, Unrestored};
-use crate::writing::Bytes;
+use crate::writing::{Bytes, NO_VALUE};
 use alone::{Answer, Reply};
 use std::alloc::{AllocError, Global};
-use syntax::{Event, ScriptLine, Statement, Which};
+use syntax::{Event, ScriptLine, Select, Statement};
 use table::Column;
 use value::Refusal;
 
@@ -97,7 +97,21 @@ fn add_misuse(bytes: &mut Bytes, misuse: Misuse) -> Result<(), AllocError>
     }
 }
 
-/// The names of the columns that a statement lists; those of its table, where it lists all.
+/// The names of the columns that a SELECT lists. `columns` are all of its table.
+fn add_column_names(
+    bytes: &mut Bytes,
+    columns: &[Column],
+    select: &Select,
+) -> Result<(), AllocError>
+    ensures { OnOk result (bytes.new ≡ bytes.old ++ spec.column_names columns.now select.now.columns) }
+{
+    match &select.columns {
+        Some(derived) => bytes.add_names(derived.as_slice()),
+        None => bytes.add_columns(columns),
+    }
+}
+
+/// The same of the statement of an event.
 fn add_listed_columns(
     bytes: &mut Bytes,
     columns: &[Column],
@@ -106,12 +120,7 @@ fn add_listed_columns(
     ensures { OnOk result (bytes.new ≡ bytes.old ++ spec.listed_columns columns.now event.now) }
 {
     match event {
-        Event::Run(
-            Statement::Select {
-                columns: Which::Names(names),
-                ..
-            },
-        ) => bytes.add_names(names.as_slice()),
+        Event::Run(Statement::Select(select)) => add_column_names(bytes, columns, select),
         _ => bytes.add_columns(columns),
     }
 }
@@ -186,7 +195,7 @@ fn add_not_kept(bytes: &mut Bytes, line: &[u8]) -> Result<(), AllocError>
     add_numbered(bytes, REFUSAL, 25)?;
     bytes.add_text(b"58030")?;
     bytes.add_text(&[])?;
-    bytes.add_byte(4)?;
+    bytes.add_byte(NO_VALUE)?;
     add_no_numbers(bytes)?;
     bytes.add_text(line)
 }

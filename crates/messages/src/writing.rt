@@ -1,16 +1,38 @@
 //! Bytes as they grow, field by field.
 
-ghost use Rattle.std.specs.Prelude.{◌≡◌, ◌++◌, ◌∷◌, [], OnOk, IfOk};
+ghost use Rattle.std.specs.Prelude.{◌≡◌, ◌++◌, ◌∷◌, [], OnOk, IfOk, map};
+ghost use Rattle.alone.specs.Results.{value_of};
+ghost use Rattle.messages.specs.Columns.{derived_name};
 ghost use Rattle.messages.specs.Spelling as spelling;
 ghost use Rattle.messages.specs.Refusals as parts;
 
+use crate::columns::derived_name;
 use crate::parts::{
     conflict_of, name_of, number_of, offset_of, pivot_of, reader_of, sqlstate_of, writer_of,
 };
+use alone::{ResultRow, ResultValue};
+use itoa::Buffer;
 use std::alloc::{AllocError, Global};
 use std::marker::Model;
-use table::{Column, Row};
-use value::{Refusal, Root, Text, Truth, Value};
+use syntax::DerivedColumn;
+use table::Column;
+use value::{Refusal, Root, Truth, Value};
+
+// The kinds of values, as `bindings/c/skewguard.h` numbers them.
+const NULL: u8 = 0;
+
+const NUMBER: u8 = 1;
+
+const CHARACTERS: u8 = 2;
+
+/// Of a root: the assertion is false as a whole.
+const ALL: u8 = 3;
+
+/// Of a refusal that names no root and no key.
+pub const NO_VALUE: u8 = 4;
+
+/// A number that passes 64 bits.
+const NUMERIC: u8 = 5;
 
 /// Bytes that grow, in a contract their list. Where no memory is left, a field may stand there in part.
 #[derive(Drop)]
@@ -84,15 +106,47 @@ impl Bytes {
         ensures { OnOk result (self.new ≡ self.old ++ spelling.value value.now) }
     {
         match value {
-            Value::Null => self.add_byte(0),
-            Value::Int(number) => {
-                self.add_byte(1)?;
-                self.add_number(bits_of(*number))
-            }
-            Value::Text(text) => {
-                self.add_byte(2)?;
-                self.add_text(text.as_bytes())
-            }
+            Value::Null => self.add_byte(NULL),
+            Value::Int(number) => self.add_number_value(*number),
+            Value::Text(text) => self.add_text_value(text.as_bytes()),
+        }
+    }
+
+    fn add_number_value(&mut self, number: i64) -> Result<(), AllocError>
+        ensures { OnOk result (self.new ≡ self.old ++ 1 ∷ spelling.number (spelling.bits_of number)) }
+    {
+        self.add_byte(NUMBER)?;
+        self.add_number(bits_of(number))
+    }
+
+    fn add_text_value(&mut self, text: &[u8]) -> Result<(), AllocError>
+        ensures { OnOk result (self.new ≡ self.old ++ 2 ∷ spelling.text text.now) }
+    {
+        self.add_byte(CHARACTERS)?;
+        self.add_text(text)
+    }
+
+    /// A value that a SELECT lists.
+    fn add_listed_value(&mut self, value: &ResultValue) -> Result<(), AllocError>
+        ensures { OnOk result (self.new ≡ self.old ++ spelling.listed_value (value_of value.now)) }
+    {
+        match value {
+            ResultValue::Null => self.add_byte(NULL),
+            ResultValue::Number(number) => self.add_listed_number(*number),
+            ResultValue::Text(text) => self.add_text_value(text.as_bytes()),
+        }
+    }
+
+    /// A number of a listed row. One that passes 64 bits stands by its decimal digits, so that a reader may take it
+    /// into whatever type it has for such numbers.
+    fn add_listed_number(&mut self, number: i128) -> Result<(), AllocError>
+        ensures { OnOk result (self.new ≡ self.old ++ spelling.listed_number number) }
+    {
+        if i64::MIN as i128 <= number && number <= i64::MAX as i128 {
+            self.add_number_value(number as i64)
+        } else {
+            self.add_byte(NUMERIC)?;
+            self.add_text(Buffer::new().format(number).as_bytes())
         }
     }
 
@@ -100,7 +154,7 @@ impl Bytes {
         ensures { OnOk result (self.new ≡ self.old ++ spelling.root root.now) }
     {
         match root {
-            Root::All => self.add_byte(3),
+            Root::All => self.add_byte(ALL),
             Root::Of(value) => self.add_value(value),
         }
     }
@@ -116,16 +170,16 @@ impl Bytes {
         }
     }
 
-    fn add_row(&mut self, values: &[Value]) -> Result<(), AllocError>
-        ensures { OnOk result (self.new ≡ self.old ++ spelling.row values.now) }
+    fn add_row(&mut self, values: &[ResultValue]) -> Result<(), AllocError>
+        ensures { OnOk result (self.new ≡ self.old ++ spelling.row (map value_of values.now)) }
     {
         for value in values {
-            self.add_value(value)?;
+            self.add_listed_value(value)?;
         }
         Ok(())
     }
 
-    fn add_each_row(&mut self, rows: &[Row]) -> Result<(), AllocError>
+    fn add_each_row(&mut self, rows: &[ResultRow]) -> Result<(), AllocError>
         ensures { OnOk result (self.new ≡ self.old ++ spelling.each_row rows.now) }
     {
         for row in rows {
@@ -135,28 +189,28 @@ impl Bytes {
     }
 
     /// How many rows, and the values of each.
-    pub fn add_rows(&mut self, rows: &[Row]) -> Result<(), AllocError>
+    pub fn add_rows(&mut self, rows: &[ResultRow]) -> Result<(), AllocError>
         ensures { OnOk result (self.new ≡ self.old ++ spelling.rows rows.now) }
     {
         self.add_number(rows.len() as u64)?;
         self.add_each_row(rows)
     }
 
-    fn add_each_name(&mut self, names: &[Text]) -> Result<(), AllocError>
-        ensures { OnOk result (self.new ≡ self.old ++ spelling.each_name names.now) }
+    fn add_each_name(&mut self, columns: &[DerivedColumn]) -> Result<(), AllocError>
+        ensures { OnOk result (self.new ≡ self.old ++ spelling.each_name (map derived_name columns.now)) }
     {
-        for name in names {
-            self.add_text(name.as_bytes())?;
+        for column in columns {
+            self.add_text(derived_name(column))?;
         }
         Ok(())
     }
 
-    /// How many names, and each.
-    pub fn add_names(&mut self, names: &[Text]) -> Result<(), AllocError>
-        ensures { OnOk result (self.new ≡ self.old ++ spelling.names names.now) }
+    /// How many derived columns, and the name of each.
+    pub fn add_names(&mut self, columns: &[DerivedColumn]) -> Result<(), AllocError>
+        ensures { OnOk result (self.new ≡ self.old ++ spelling.names (map derived_name columns.now)) }
     {
-        self.add_number(names.len() as u64)?;
-        self.add_each_name(names)
+        self.add_number(columns.len() as u64)?;
+        self.add_each_name(columns)
     }
 
     fn add_each_column(&mut self, columns: &[Column]) -> Result<(), AllocError>
@@ -203,7 +257,7 @@ impl Bytes {
                 self.add_root(group),
             Refusal::DuplicateKey { key, .. } | Refusal::WriteConflict { key, .. } =>
                 self.add_value(key),
-            _ => self.add_byte(4),
+            _ => self.add_byte(NO_VALUE),
         }
     }
 

@@ -5,10 +5,13 @@ ghost use Rattle.leaf_parser.specs.Reads.{Reads};
 
 use crate::inserts::parse_insert;
 use condition_parser::{parse_condition, parse_expression};
-use leaf_parser::{Cursor, NamePart, Part, Stop, drop_and_stop, parse_list, parse_name};
-use sqlite_items::Boxed;
+use leaf_parser::{
+    Cursor, NamePart, Part, Stop, drop_and_stop, expect_after, parse_correlation_name, parse_list,
+    parse_name,
+};
+use sqlite_items::{Boxed, Items};
 use std::alloc::Global;
-use syntax::{Assignment, Condition, Mode, Statement, UpdateSource, Which};
+use syntax::{Assignment, Condition, DerivedColumn, Mode, Select, Statement, UpdateSource, Which};
 use token::Kind;
 
 /// `DEFERRED | IMMEDIATE`
@@ -37,20 +40,6 @@ fn parse_constraints(alloc: Global, cursor: &mut Cursor<'_>) -> Result<Which, St
     match cursor.peek() {
         Kind::All => {
             cursor.take(Kind::All);
-            Ok(Which::All)
-        }
-        _ => Ok(Which::Names(parse_list(alloc, &NamePart(alloc), cursor)?)),
-    }
-}
-
-/// `"*" | name { "," name }`
-#[tactic(auto, unfolding(syntax::specs::StatementReaders::selected))]
-fn parse_selected(alloc: Global, cursor: &mut Cursor<'_>) -> Result<Which, Stop>
-    ensures { Reads (reader.selected cursor.old) result cursor.new }
-{
-    match cursor.peek() {
-        Kind::Star => {
-            cursor.take(Kind::Star);
             Ok(Which::All)
         }
         _ => Ok(Which::Names(parse_list(alloc, &NamePart(alloc), cursor)?)),
@@ -168,21 +157,75 @@ fn parse_delete(alloc: Global, cursor: &mut Cursor<'_>, depth: usize) -> Result<
     Ok(Statement::Delete { table, keeps })
 }
 
-/// `SELECT ("*" | name { "," name }) FROM name [WHERE cond]`
+/// A derived column: `expr [ [AS] name ]`, where so many parentheses may be opened.
+#[derive(Drop)]
+struct DerivedColumnPart {
+    alloc: Global,
+    depth: usize,
+}
+
+impl Part for DerivedColumnPart {
+    ghost use Rattle.syntax.specs.StatementReaders as reader;
+
+    type Tree = DerivedColumn;
+
+    ghost ready = { λ _. Unit {0} };
+
+    ghost reader = { λ d. reader.derived_column d.depth };
+
+    #[tactic(auto, unfolding(syntax::specs::StatementReaders::derived_column))]
+    fn parse(&self, cursor: &mut Cursor<'_>) -> Result<DerivedColumn, Stop> {
+        let value = parse_expression(self.alloc, cursor, self.depth)?;
+        match parse_correlation_name(self.alloc, cursor) {
+            Ok(name) => Ok(DerivedColumn { value, name }),
+            Err(stop) => Err(drop_and_stop(stop, value)),
+        }
+    }
+}
+
+/// `"*" | item { "," item }`
+#[tactic(auto, unfolding(syntax::specs::StatementReaders::selected))]
+fn parse_selected(
+    alloc: Global,
+    cursor: &mut Cursor<'_>,
+    depth: usize,
+) -> Result<Option<Items<DerivedColumn>>, Stop>
+    ensures { Reads (reader.selected depth cursor.old) result cursor.new }
+{
+    match cursor.peek() {
+        Kind::Star => {
+            cursor.take(Kind::Star);
+            Ok(None)
+        }
+        _ => Ok(Some(parse_list(alloc, &DerivedColumnPart { alloc, depth }, cursor)?)),
+    }
+}
+
+/// `SELECT ("*" | item { "," item }) FROM name [ [AS] name ] [WHERE cond]`
 #[tactic(auto, unfolding(syntax::specs::StatementReaders::select))]
-fn parse_select(alloc: Global, cursor: &mut Cursor<'_>, depth: usize) -> Result<Statement, Stop>
+fn parse_select(alloc: Global, cursor: &mut Cursor<'_>, depth: usize) -> Result<Select, Stop>
     ensures { Reads (reader.select depth cursor.old) result cursor.new }
 {
     cursor.expect(Kind::Select)?;
-    let columns = parse_selected(alloc, cursor)?;
-    cursor.expect(Kind::From)?;
-    let table = parse_name(alloc, cursor)?;
-    let keeps = parse_where(alloc, cursor, depth)?;
-    Ok(Statement::Select {
-        columns,
-        table,
-        keeps,
-    })
+    let listed = parse_selected(alloc, cursor, depth)?;
+    let columns = expect_after(cursor, Kind::From, listed)?;
+    let table = match parse_name(alloc, cursor) {
+        Ok(table) => table,
+        Err(stop) => return Err(drop_and_stop(stop, columns)),
+    };
+    let correlation_name = match parse_correlation_name(alloc, cursor) {
+        Ok(name) => name,
+        Err(stop) => return Err(drop_and_stop(stop, (columns, table))),
+    };
+    match parse_where(alloc, cursor, depth) {
+        Ok(keeps) => Ok(Select {
+            columns,
+            table,
+            correlation_name,
+            keeps,
+        }),
+        Err(stop) => Err(drop_and_stop(stop, (columns, table, correlation_name))),
+    }
 }
 
 /// A statement.
@@ -198,7 +241,7 @@ pub fn parse_statement(
         Kind::Insert => Ok(Statement::Insert(parse_insert(alloc, cursor, depth)?)),
         Kind::Update => parse_update(alloc, cursor, depth),
         Kind::Delete => parse_delete(alloc, cursor, depth),
-        Kind::Select => parse_select(alloc, cursor, depth),
+        Kind::Select => Ok(Statement::Select(parse_select(alloc, cursor, depth)?)),
         Kind::Set => parse_set_constraints(alloc, cursor),
         Kind::Verdict => parse_verdict(alloc, cursor),
         _ => Err(Stop::Syntax),

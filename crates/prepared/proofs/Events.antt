@@ -13,9 +13,9 @@ use Rattle.syntax.specs.StatementGrammar as g
 use Rattle.syntax.specs.declared.wants.PartInParentheses.{PartInParentheses}
 use Rattle.syntax.specs.Language.{Lexeme, Lexemes, Language}
 use Rattle.syntax.specs.Language as lang
-use Rattle.prepared.specs.Numerals.{numerals, numerals_of_parts, condition_numerals, expression_numerals, value_numerals, row_numerals, insert_numerals, assigned_numerals, assignment_numerals, filter_numerals, statement_numerals, event_numerals}
-use Rattle.prepared.proofs.Yields.{Adds, Silent, yields_token, yields_number, yields_map, yields_then, yields_list, silent_pure, silent_or, silent_seq, silent_map, silent_optional, silent_parens, silent_list, adds_pure, adds_or, adds_seq, adds_parens, adds_map, adds_none, adds_behind}
-use Rattle.prepared.proofs.Rules.{abs_signed, silent_name, found_numerals, inner_expr, inner_cond, nested}
+use Rattle.prepared.specs.Numerals.{numerals, numerals_of_parts, condition_numerals, expression_numerals, value_numerals, row_numerals, insert_numerals, assigned_numerals, assignment_numerals, filter_numerals, derived_column_numerals, selected_numerals, select_numerals, statement_numerals, event_numerals}
+use Rattle.prepared.proofs.Yields.{Adds, Silent, yields_token, yields_number, yields_map, yields_then, yields_seq, yields_list, silent_pure, silent_or, silent_seq, silent_map, silent_optional, silent_parens, silent_list, adds_pure, adds_or, adds_seq, adds_parens, adds_map, adds_none, adds_behind}
+use Rattle.prepared.proofs.Rules.{abs_signed, silent_name, silent_correlation_name, found_numerals, inner_expr, inner_cond, nested}
 
 -- ---- parts without a number
 
@@ -30,10 +30,6 @@ silent_check_time = silent_or _ _ (silent_seq k.Deferred _ refl (silent_pure mod
 silent_constraints : Silent g.constraints
 unfolding g.constraints
 silent_constraints = silent_or _ _ (silent_seq k.All _ refl (silent_pure which.All)) (silent_map which.Names (lang.list grammar.name) (silent_list grammar.name silent_name))
-
-silent_selected : Silent g.selected
-unfolding g.selected
-silent_selected = silent_or _ _ (silent_seq k.Star _ refl (silent_pure which.All)) (silent_map which.Names (lang.list grammar.name) (silent_list grammar.name silent_name))
 
 silent_work : Silent (lang.optional (lang.token k.Work))
 silent_work = silent_optional (lang.token k.Work) (λ before. yields_token k.Work before refl)
@@ -124,18 +120,38 @@ module _ (inner : Language PartInParentheses) (adds : Adds inner found_numerals)
       adds_seq k.Delete _ statement_numerals refl (adds_seq k.From _ statement_numerals refl (adds_behind grammar.name _ statement_numerals silent_name
       (λ table. adds_map (s.Delete table) (g.where_clause inner) filter_numerals statement_numerals (λ keeps. refl) where_clause)))
 
-  select : Adds (g.select inner) statement_numerals
+  derived_column : Adds (g.derived_column inner) derived_column_numerals
+  unfolding g.derived_column
+  derived_column before =
+      yields_then (grammar.inner_expr inner) _ before (λ value. before ++ expression_numerals value) (λ x. before ++ derived_column_numerals x) (inner_expr inner adds before)
+      (λ value. yields_map (g.derived_column_of value) grammar.correlation_name (before ++ expression_numerals value) (λ _. before ++ expression_numerals value) (λ x. before ++ derived_column_numerals x)
+      (silent_correlation_name (before ++ expression_numerals value)) (λ name. refl))
+
+  selected : Adds (g.selected inner) selected_numerals
+  unfolding g.selected
+  selected =
+      adds_or _ _ selected_numerals (adds_seq k.Star _ selected_numerals refl (adds_pure None selected_numerals refl))
+      (adds_map Some (lang.list (g.derived_column inner)) (λ columns. numerals_of_parts (map derived_column_numerals columns)) selected_numerals (λ columns. refl)
+      (yields_list (g.derived_column inner) derived_column_numerals derived_column))
+
+  select : Adds (g.select inner) select_numerals
   unfolding g.select
   select =
-      adds_seq k.Select _ statement_numerals refl (adds_behind g.selected _ statement_numerals silent_selected
-      (λ which. adds_seq k.From _ statement_numerals refl (adds_behind grammar.name _ statement_numerals silent_name
-      (λ table. adds_map (s.Select which table) (g.where_clause inner) filter_numerals statement_numerals (λ keeps. refl) where_clause))))
+      adds_seq k.Select _ select_numerals refl (λ before.
+      yields_then (g.selected inner) _ before (λ columns. before ++ selected_numerals columns) (λ x. before ++ select_numerals x) (selected before)
+      (λ columns. let behind = before ++ selected_numerals columns in
+      yields_seq k.From _ behind (λ x. before ++ select_numerals x) refl
+      (yields_then grammar.name _ behind (λ _. behind) (λ x. before ++ select_numerals x) (silent_name behind)
+      (λ table. yields_then grammar.correlation_name _ behind (λ _. behind) (λ x. before ++ select_numerals x) (silent_correlation_name behind)
+      (λ other. yields_map (g.select_of columns table other) (g.where_clause inner) behind (λ keeps. behind ++ filter_numerals keeps) (λ x. before ++ select_numerals x) (where_clause behind)
+      (λ keeps. sym (append_assoc before (selected_numerals columns) (filter_numerals keeps))))))))
 
   statement : Adds (g.statement inner) statement_numerals
   unfolding g.statement
   statement =
       adds_or _ _ statement_numerals (adds_or _ _ statement_numerals (adds_or _ _ statement_numerals (adds_or _ _ statement_numerals (adds_or _ _ statement_numerals
-      (adds_map s.Insert g.insert insert_numerals statement_numerals (λ x. refl) adds_insert) update) delete) select) adds_set_constraints) adds_verdict
+      (adds_map s.Insert g.insert insert_numerals statement_numerals (λ x. refl) adds_insert) update) delete)
+      (adds_map s.Select (g.select inner) select_numerals statement_numerals (λ x. refl) select)) adds_set_constraints) adds_verdict
 
   one_event : Adds (g.one_event inner) event_numerals
   unfolding g.one_event

@@ -24,7 +24,7 @@ not_begin x None e = cc
 not_begin x (Some only) e = cc
 
 insert_statement : (inner : Language PartInParentheses) (w : Lexemes) (x : Insert) → g.statement inner w (s.Insert x) → g.insert w x
-unfolding g.statement g.update g.delete g.select g.set_constraints g.verdict
+unfolding g.statement g.update g.delete g.set_constraints g.verdict
 insert_statement inner w x (inl (inl (inl (inl (inl h))))) =
     let same : h.tree ≡ x = cc (h.split.second.1) in
     subst (λ z. g.insert w z) same (subst (λ z. g.insert z h.tree) (sym (h.split.cut ∙ ap (λ z. h.split.front ++ z) h.split.second.0 ∙ append-nil h.split.front)) h.split.first)
@@ -33,7 +33,7 @@ insert_statement inner w x (inl (inl (inl (inl (inr h))))) =
 insert_statement inner w x (inl (inl (inl (inr h)))) =
     let no : s.Insert x ≡ s.Delete _ _ = h.split.second.split.second.split.second.split.second.1 in cc
 insert_statement inner w x (inl (inl (inr h))) =
-    let no : s.Insert x ≡ s.Select _ _ _ = h.split.second.split.second.split.second.split.second.split.second.1 in cc
+    let no : s.Insert x ≡ s.Select _ = h.split.second.1 in cc
 insert_statement inner w x (inl (inr h)) =
     let no : s.Insert x ≡ s.SetConstraints _ _ = h.split.second.split.second.split.second.split.second.1 in cc
 insert_statement inner w x (inr h) =
@@ -76,7 +76,7 @@ module _ (write : Argument → Lexemes) (writes : (given : Argument) → IsValue
       }
   event_kept (event.Run (s.Update table sets keeps)) w now h clear = constants_kept (event.Run (s.Update table sets keeps)) w now h clear
   event_kept (event.Run (s.Delete table keeps)) w now h clear = constants_kept (event.Run (s.Delete table keeps)) w now h clear
-  event_kept (event.Run (s.Select which table keeps)) w now h clear = constants_kept (event.Run (s.Select which table keeps)) w now h clear
+  event_kept (event.Run (s.Select select)) w now h clear = constants_kept (event.Run (s.Select select)) w now h clear
   event_kept (event.Run (s.SetConstraints which mode)) w now h clear = constants_kept (event.Run (s.SetConstraints which mode)) w now h clear
   event_kept (event.Run (s.Verdict name)) w now h clear = constants_kept (event.Run (s.Verdict name)) w now h clear
   event_kept event.Begin w now h clear = constants_kept event.Begin w now h clear

@@ -1,5 +1,5 @@
 -- Where the last token of a text ends, one turn at a time.
-use Rattle.std.proofs.Common.{◌≡◌, ℕ, zero, suc, ◌-◌, ◌<◌, ◌≤◌, Some, None, refl, ap, sym, arith, ◌∙◌}
+use Rattle.std.proofs.Common.{◌≡◌, ℕ, zero, suc, ◌-◌, ◌<◌, Some, None, ap, sym, arith, ◌∙◌}
 use Rattle.token.specs.Bytes.{Text}
 use Rattle.prepared.specs.declared.masks.Next.{Next}
 use Rattle.prepared.specs.Masks.{next_at}

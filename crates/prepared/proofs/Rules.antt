@@ -60,7 +60,7 @@ silent_truth =
     silent_or _ _ (silent_or _ _ (silent_seq k.True _ refl (silent_pure t.True)) (silent_seq k.False _ refl (silent_pure t.False)))
     (silent_seq k.Unknown _ refl (silent_pure t.Unknown))
 
-silent_correlation_name : Silent g.correlation_name
+pub silent_correlation_name : Silent g.correlation_name
 unfolding g.correlation_name
 silent_correlation_name =
     silent_or _ _ (silent_or _ _ (silent_pure None) (silent_map Some g.name silent_name)) (silent_seq k.As _ refl (silent_map Some g.name silent_name))

@@ -14,6 +14,8 @@ use Rattle.syntax.specs.Grammar as grammar
 use Rattle.syntax.specs.declared.statements.UpdateSource.{UpdateSource}
 use Rattle.syntax.specs.declared.statements.UpdateSource.TheVariants as to
 use Rattle.syntax.specs.declared.statements.Insert.{Insert}
+use Rattle.syntax.specs.declared.statements.DerivedColumn.{DerivedColumn}
+use Rattle.syntax.specs.declared.statements.Select.{Select}
 use Rattle.syntax.specs.declared.statements.Which.TheVariants as which
 use Rattle.syntax.specs.declared.statements.Mode.TheVariants as mode
 use Rattle.syntax.specs.declared.statements.Statement.{Statement}
@@ -29,11 +31,11 @@ use Rattle.prepared.specs.declared.faults.FillFault.TheVariants.{NumberOutOfRang
 use Rattle.prepared.specs.Numbers.{is_number}
 use Rattle.prepared.specs.Constants.{Argument, Constants, first_and_rest, and_then, then_made, next_by, constant_by, constant_of, expression_by, expression_of, assigned_by, assigned_of}
 use Rattle.prepared.specs.Conditions.{filled_expression, filled_condition}
-use Rattle.prepared.specs.Statements.{filled_value, filled_values, filled_rows, filled_insert, assigned_layer, filled_assigned, filled_assignment, filled_assignments, filled_filter, filled_statement, filled_event}
+use Rattle.prepared.specs.Statements.{filled_value, filled_values, filled_rows, filled_insert, assigned_layer, filled_assigned, filled_assignment, filled_assignments, filled_filter, filled_derived_column, filled_derived_columns, filled_selected, filled_select, filled_statement, filled_event}
 use Rattle.prepared.specs.Written.{IsConstant, IsValue, Writes, for_token, behind_token, written_token, tokens_with_constants}
 use Rattle.prepared.proofs.Keeps.{Prior, Sign, Other, Ends, Any, Clear, ClearAt, left, Kept, Keeps, Quiet, some_result, keeps_pure, keeps_or, keeps_either, keeps_into, keeps_less, keeps_as, keeps_then, keeps_map, keeps_seq, keeps_parens, keeps_behind, keeps_quiet, keeps_optional, keeps_list, quiet_pure, quiet_or, quiet_seq, quiet_less, quiet_parens, quiet_token, quiet_map, quiet_list, quiet_optional}
 use Rattle.prepared.proofs.Fills.{expression_rolled, no_answer}
-use Rattle.prepared.proofs.WrittenRules.{Inner, map_reads, seq_reads, of_token, quiet_name, nested}
+use Rattle.prepared.proofs.WrittenRules.{Inner, map_reads, seq_reads, of_token, quiet_name, quiet_correlation_name, nested}
 
 -- ---- what an UPDATE gives to a column
 
@@ -90,10 +92,6 @@ module _ (write : Argument → Lexemes) (ok : Value → Type 0) where
   quiet_constraints : Quiet write ok g.constraints Other Any
   unfolding g.constraints
   quiet_constraints = quiet_or write ok _ _ Other Any (quiet_seq write ok k.All _ Other Other Any refl refl (quiet_pure write ok which.All Other Any tt)) quiet_names
-
-  quiet_selected : Quiet write ok g.selected Other Any
-  unfolding g.selected
-  quiet_selected = quiet_or write ok _ _ Other Any (quiet_seq write ok k.Star _ Other Other Any refl refl (quiet_pure write ok which.All Other Any tt)) quiet_names
 
   quiet_work : (p : Prior) → Quiet write ok (lang.optional (lang.token k.Work)) p Any
   quiet_work p = quiet_optional write ok (lang.token k.Work) p Any tt (quiet_less write ok (lang.token k.Work) p (λ q. q ≡ Other) Any (λ q is. tt) (quiet_token write ok k.Work p refl))
@@ -286,16 +284,35 @@ module _ (write : Argument → Lexemes) (ok : Value → Type 0) where
           (λ table p ends. keeps_map write ok (s.Delete table) (s.Delete table) (g.where_clause inner) (g.where_clause inner) now (λ z. filled_filter z now) fill p Any (where_clause p now)
           (λ keeps keeps' rest is. ap (then_made (s.Delete table)) is))))
 
-      select : (now : Constants) → Keeps write ok (g.select inner) (g.select inner) now (λ z. filled_statement z now) Other Any
+      derived_column : (now : Constants) → Keeps write ok (g.derived_column inner) (g.derived_column inner) now (λ z. filled_derived_column z now) Other Any
+      unfolding g.derived_column
+      derived_column now =
+          let fill = λ (z : DerivedColumn). filled_derived_column z now in
+          keeps_then write ok (grammar.inner_expr inner) (grammar.inner_expr inner) _ _ now (λ z. filled_expression z now) fill Other Ends Any (i.expr now)
+          (λ value value' between p ends value_is. keeps_map write ok (g.derived_column_of value) (g.derived_column_of value') grammar.correlation_name grammar.correlation_name between (λ z. Ok (z, between)) fill p Any
+          (quiet_correlation_name write ok p between)
+          (λ name name' rest is. ap (then_made (λ z. g.derived_column_of z name)) value_is ∙ ap (then_made (g.derived_column_of value')) is))
+
+      selected : (now : Constants) → Keeps write ok (g.selected inner) (g.selected inner) now (λ z. filled_selected z now) Other Any
+      unfolding g.selected
+      selected now =
+          let fill = λ (z : Option (List DerivedColumn)). filled_selected z now in
+          keeps_or write ok _ _ _ _ now fill Other Any (keeps_seq write ok k.Star _ _ now fill Other Other Any refl refl (keeps_pure write ok None None now fill Other Any refl tt))
+          (keeps_map write ok Some Some (lang.list (g.derived_column inner)) (lang.list (g.derived_column inner)) now (λ z. filled_derived_columns z now) fill Other Any
+          (keeps_list write ok (g.derived_column inner) (g.derived_column inner) filled_derived_column Any derived_column now)
+          (λ columns columns' rest is. ap (then_made Some) is))
+
+      select : (now : Constants) → Keeps write ok (g.select inner) (g.select inner) now (λ z. filled_select z now) Other Any
       unfolding g.select
       select now =
-          let fill = λ (z : Statement). filled_statement z now in
+          let fill = λ (z : Select). filled_select z now in
           keeps_seq write ok k.Select _ _ now fill Other Other Any refl refl
-          (keeps_behind write ok g.selected _ _ now fill Other Any Any quiet_selected
-          (λ which p any. keeps_seq write ok k.From _ _ now fill p Other Any refl refl
-          (keeps_behind write ok grammar.name _ _ now fill Other Ends Any (quiet_name write ok Other)
-          (λ table q ends. keeps_map write ok (s.Select which table) (s.Select which table) (g.where_clause inner) (g.where_clause inner) now (λ z. filled_filter z now) fill q Any (where_clause q now)
-          (λ keeps keeps' rest is. ap (then_made (s.Select which table)) is)))))
+          (keeps_then write ok (g.selected inner) (g.selected inner) _ _ now (λ z. filled_selected z now) fill Other Any Any (selected now)
+          (λ columns columns' between p any columns_are. keeps_seq write ok k.From _ _ between fill p Other Any refl refl
+          (keeps_behind write ok grammar.name _ _ between fill Other Ends Any (quiet_name write ok Other)
+          (λ table q ends. keeps_behind write ok grammar.correlation_name _ _ between fill q Any Any (quiet_correlation_name write ok q)
+          (λ other r any. keeps_map write ok (g.select_of columns table other) (g.select_of columns' table other) (g.where_clause inner) (g.where_clause inner) between (λ z. filled_filter z between) fill r Any (where_clause r between)
+          (λ keeps keeps' rest is. ap (λ r. and_then r (λ l. then_made (g.select_of l.0 table other) (filled_filter keeps l.1))) columns_are ∙ ap (then_made (g.select_of columns' table other)) is))))))
 
       statement : (now : Constants) → Keeps write ok (g.statement inner) (g.statement inner) now (λ z. filled_statement z now) Other Any
       unfolding g.statement
@@ -303,7 +320,9 @@ module _ (write : Argument → Lexemes) (ok : Value → Type 0) where
           let fill = λ (z : Statement). filled_statement z now in
           keeps_or write ok _ _ _ _ now fill Other Any (keeps_or write ok _ _ _ _ now fill Other Any (keeps_or write ok _ _ _ _ now fill Other Any (keeps_or write ok _ _ _ _ now fill Other Any (keeps_or write ok _ _ _ _ now fill Other Any
           (keeps_map write ok s.Insert s.Insert g.insert g.insert now (λ z. filled_insert z now) fill Other Any (insert now) (λ x y rest is. ap (then_made s.Insert) is))
-          (update now)) (delete now)) (select now)) (set_constraints now)) (verdict now)
+          (update now)) (delete now))
+          (keeps_map write ok s.Select s.Select (g.select inner) (g.select inner) now (λ z. filled_select z now) fill Other Any (select now) (λ x y rest is. ap (then_made s.Select) is)))
+          (set_constraints now)) (verdict now)
 
       one_event : (now : Constants) → Keeps write ok (g.one_event inner) (g.one_event inner) now (λ z. filled_event z now) Other Any
       unfolding g.one_event

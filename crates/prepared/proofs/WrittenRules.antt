@@ -103,7 +103,7 @@ module _ (write : Argument → Lexemes) (ok : Value → Type 0) where
   some_name : (p : Prior) → Quiet write ok (lang.◌<$>◌ Some g.name) p Any
   some_name p = quiet_less write ok _ p Ends Any (λ q e. tt) (quiet_map write ok Some g.name p Ends (quiet_name p))
 
-  quiet_correlation_name : (p : Prior) → Quiet write ok g.correlation_name p Any
+  pub quiet_correlation_name : (p : Prior) → Quiet write ok g.correlation_name p Any
   unfolding g.correlation_name
   quiet_correlation_name p =
       quiet_or write ok _ _ p Any (quiet_or write ok _ _ p Any (quiet_pure write ok None p Any tt) (some_name p)) (quiet_seq write ok k.As _ p Other Any refl refl (some_name Other))

@@ -14,6 +14,8 @@ use Rattle.syntax.specs.declared.statements.Insert.{Insert}
 use Rattle.syntax.specs.declared.statements.UpdateSource.{UpdateSource}
 use Rattle.syntax.specs.declared.statements.UpdateSource.TheVariants as to
 use Rattle.syntax.specs.declared.statements.Assignment.{Assignment}
+use Rattle.syntax.specs.declared.statements.DerivedColumn.{DerivedColumn}
+use Rattle.syntax.specs.declared.statements.Select.{Select}
 use Rattle.syntax.specs.declared.statements.Statement.{Statement}
 use Rattle.syntax.specs.declared.statements.Statement.TheVariants as s
 use Rattle.syntax.specs.declared.statements.Event.{Event}
@@ -123,13 +125,26 @@ abbrev pub filter_numerals : Option Condition → Numerals
 filter_numerals None = []
 filter_numerals (Some condition) = condition_numerals condition
 
+-- those of a derived column
+abbrev pub derived_column_numerals : DerivedColumn → Numerals
+derived_column_numerals column = expression_numerals column.value
+
+-- those of what a SELECT lists
+abbrev pub selected_numerals : Option (List DerivedColumn) → Numerals
+selected_numerals None = []
+selected_numerals (Some columns) = numerals_of_parts (map derived_column_numerals columns)
+
+-- those of a SELECT: of its columns, and of its WHERE
+abbrev pub select_numerals : Select → Numerals
+select_numerals select = selected_numerals select.columns ++ filter_numerals select.keeps
+
 -- those of a statement, in the order in which it is written
 abbrev pub statement_numerals : Statement → Numerals
 statement_numerals (s.Insert insert) = insert_numerals insert
 statement_numerals (s.Update table sets keeps) = numerals_of_parts (map assignment_numerals sets)
     ++ filter_numerals keeps
 statement_numerals (s.Delete table keeps) = filter_numerals keeps
-statement_numerals (s.Select which table keeps) = filter_numerals keeps
+statement_numerals (s.Select select) = select_numerals select
 statement_numerals _ = []
 
 -- those of an event

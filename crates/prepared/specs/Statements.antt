@@ -13,11 +13,13 @@ use Rattle.syntax.specs.declared.statements.Insert.{Insert}
 use Rattle.syntax.specs.declared.statements.UpdateSource.{UpdateSource}
 use Rattle.syntax.specs.declared.statements.UpdateSource.TheVariants as to
 use Rattle.syntax.specs.declared.statements.Assignment.{Assignment}
+use Rattle.syntax.specs.declared.statements.DerivedColumn.{DerivedColumn}
+use Rattle.syntax.specs.declared.statements.Select.{Select}
 use Rattle.syntax.specs.declared.statements.Statement.{Statement}
 use Rattle.syntax.specs.declared.statements.Statement.TheVariants as s
 use Rattle.syntax.specs.declared.statements.Event.{Event}
 use Rattle.syntax.specs.declared.statements.Event.TheVariants as event
-use Rattle.syntax.specs.StatementGrammar.{insert_of, assignment_of}
+use Rattle.syntax.specs.StatementGrammar.{insert_of, assignment_of, derived_column_of, select_of}
 use Rattle.prepared.specs.Constants.{Filling, then_made, same, both, all, if_there, next, constant_of, assigned_of}
 use Rattle.prepared.specs.Conditions.{filled_condition, filled_expression}
 
@@ -62,14 +64,32 @@ filled_assignments sets = all (map filled_assignment sets)
 abbrev pub filled_filter : Option Condition → Filling (Option Condition)
 filled_filter keeps = if_there (option_map filled_condition keeps)
 
+-- a derived column with values in the places of its parameters
+abbrev pub filled_derived_column : DerivedColumn → Filling DerivedColumn
+filled_derived_column column constants =
+    then_made (λ value. derived_column_of value column.name) (filled_expression column.value constants)
+
+-- the derived columns of a SELECT, from the left
+abbrev pub filled_derived_columns : List DerivedColumn → Filling (List DerivedColumn)
+filled_derived_columns columns = all (map filled_derived_column columns)
+
+-- what a SELECT lists: columns, if they are written
+abbrev pub filled_selected : Option (List DerivedColumn) → Filling (Option (List DerivedColumn))
+filled_selected columns = if_there (option_map filled_derived_columns columns)
+
+-- a SELECT with values in the places of its parameters: those of its columns, and then those of its WHERE
+abbrev pub filled_select : Select → Filling Select
+filled_select select constants =
+    both (λ columns. select_of columns select.table select.correlation_name) (filled_selected select.columns)
+    (filled_filter select.keeps) constants
+
 -- a statement with values in the places of its parameters; some statements have none
 abbrev pub filled_statement : Statement → Filling Statement
 filled_statement (s.Insert insert) constants = then_made s.Insert (filled_insert insert constants)
 filled_statement (s.Update table sets keeps) constants =
     both (s.Update table) (filled_assignments sets) (filled_filter keeps) constants
 filled_statement (s.Delete table keeps) constants = then_made (s.Delete table) (filled_filter keeps constants)
-filled_statement (s.Select which table keeps) constants =
-    then_made (s.Select which table) (filled_filter keeps constants)
+filled_statement (s.Select select) constants = then_made s.Select (filled_select select constants)
 filled_statement (s.SetConstraints which mode) constants = same (s.SetConstraints which mode) constants
 filled_statement (s.Verdict name) constants = same (s.Verdict name) constants
 

@@ -7,11 +7,14 @@ ghost use Rattle.syntax.specs.declared.statements.Statement.TheVariants as s;
 
 use crate::conditions::{fill_condition, fill_expression};
 use crate::constants::Constants;
-use crate::copies::{copy_columns, copy_which, drop_and_fail, put_behind};
+use crate::copies::{copy_columns, copy_name, copy_which, drop_and_fail, put_behind};
 use crate::faults::FillFault;
 use sqlite_items::{Boxed, Items};
 use std::alloc::Global;
-use syntax::{Assignment, Condition, Event, Expression, Insert, Statement, UpdateSource};
+use syntax::{
+    Assignment, Condition, DerivedColumn, Event, Expression, Insert, Select, Statement,
+    UpdateSource,
+};
 use value::{Text, Value};
 
 /// A value of an INSERT.
@@ -181,6 +184,84 @@ fn fill_update(
     }
 }
 
+/// A derived column of a SELECT.
+fn fill_derived_column(
+    alloc: Global,
+    column: &DerivedColumn,
+    constants: &mut Constants,
+) -> Result<DerivedColumn, FillFault>
+    ensures made { IfOk result (λ made.
+        spec.filled_derived_column column.now constants.old ≡ Ok (made, constants.new)) }
+    ensures refused { IfErr result (λ fault. fault ≢ NoMemory
+        → spec.filled_derived_column column.now constants.old ≡ Err fault) }
+{
+    let name = copy_name(&column.name)?;
+    let value = fill_expression(alloc, &column.value, constants)?;
+    Ok(DerivedColumn { value, name })
+}
+
+/// The derived columns of a SELECT, from the left.
+#[tactic(auto, using(crate::proofs::Parts::so_far_next, crate::proofs::Parts::so_far_none))]
+fn fill_derived_columns(
+    alloc: Global,
+    columns: &[DerivedColumn],
+    constants: &mut Constants,
+) -> Result<Items<DerivedColumn>, FillFault>
+    ensures made { IfOk result (λ made.
+        spec.filled_derived_columns columns.now constants.old ≡ Ok (made, constants.new)) }
+    ensures refused { IfErr result (λ fault. fault ≢ NoMemory
+        → spec.filled_derived_columns columns.now constants.old ≡ Err fault) }
+{
+    let mut made = Vec::new(alloc);
+    for column in columns {
+        made = match fill_derived_column(alloc, column, constants) {
+            Ok(column) => put_behind(made, column)?,
+            Err(fault) => return Err(drop_and_fail(fault, made)),
+        };
+    }
+    Ok(Items::from_vec(made))
+}
+
+/// What a SELECT lists: columns, if they are written.
+fn fill_selected(
+    alloc: Global,
+    columns: &Option<Items<DerivedColumn>>,
+    constants: &mut Constants,
+) -> Result<Option<Items<DerivedColumn>>, FillFault>
+    ensures made { IfOk result (λ made. spec.filled_selected columns.now constants.old ≡ Ok (made, constants.new)) }
+    ensures refused { IfErr result (λ fault. fault ≢ NoMemory
+        → spec.filled_selected columns.now constants.old ≡ Err fault) }
+{
+    match columns {
+        None => Ok(None),
+        Some(columns) => Ok(Some(fill_derived_columns(alloc, columns.as_slice(), constants)?)),
+    }
+}
+
+/// A SELECT of a table.
+fn fill_select(
+    alloc: Global,
+    select: &Select,
+    constants: &mut Constants,
+) -> Result<Select, FillFault>
+    ensures made { IfOk result (λ made. spec.filled_select select.now constants.old ≡ Ok (made, constants.new)) }
+    ensures refused { IfErr result (λ fault. fault ≢ NoMemory
+        → spec.filled_select select.now constants.old ≡ Err fault) }
+{
+    let table = select.table.copy()?;
+    let correlation_name = copy_name(&select.correlation_name)?;
+    let columns = fill_selected(alloc, &select.columns, constants)?;
+    match fill_where(alloc, &select.keeps, constants) {
+        Ok(keeps) => Ok(Select {
+            columns,
+            table,
+            correlation_name,
+            keeps,
+        }),
+        Err(fault) => Err(drop_and_fail(fault, columns)),
+    }
+}
+
 /// A statement.
 fn fill_statement(
     alloc: Global,
@@ -201,20 +282,7 @@ fn fill_statement(
             let keeps = fill_where(alloc, keeps, constants)?;
             Ok(Statement::Delete { table, keeps })
         }
-        Statement::Select {
-            columns,
-            table,
-            keeps,
-        } => {
-            let table = table.copy()?;
-            let columns = copy_which(alloc, columns)?;
-            let keeps = fill_where(alloc, keeps, constants)?;
-            Ok(Statement::Select {
-                columns,
-                table,
-                keeps,
-            })
-        }
+        Statement::Select(select) => Ok(Statement::Select(fill_select(alloc, select, constants)?)),
         Statement::SetConstraints { assertions, mode } => {
             let assertions = copy_which(alloc, assertions)?;
             Ok(Statement::SetConstraints {

@@ -1,18 +1,18 @@
 //! The lines of answers, piece by piece. Each function puts one piece behind what the writer has.
 
-ghost use Rattle.std.specs.Prelude.{◌≡◌, ◌++◌, OnOk, codes, decimal};
+ghost use Rattle.std.specs.Prelude.{◌≡◌, ◌++◌, OnOk, codes, decimal, map};
 ghost use Rattle.std.specs.Io.KnownBytes.{Appends};
+ghost use Rattle.alone.specs.Results.{value_of};
 ghost use Rattle.report.specs.Report.{answer_line, answer_text, asked_name, with_doubled_quotes, excess_text};
 ghost use Rattle.report.specs.Report.{fault_text, further_values, left_open_line, not_kept_line, party_text};
 ghost use Rattle.report.specs.Report.{quoted_byte, refusal_line, reply_text, root_text, row_lines, row_text, value_text};
 ghost use Rattle.report.specs.Report.{violated_text};
 
-use alone::{Answer, Reply};
-use itoa::Buffer;
+use alone::{Answer, Reply, ResultRow, ResultValue};
+use itoa::{Buffer, Integer};
 use std::io;
 use std::io::Write;
 use syntax::{Event, ScriptLine, Statement};
-use table::Row;
 use value::{Excess, Party, Refusal, Root, Text, Value};
 
 /// The line of the answer to a line of a script.
@@ -97,7 +97,7 @@ fn write_reply_text<W: Write>(event: &Event, reply: &Reply, out: &mut W) -> io::
 }
 
 /// A line for each row, behind the line before it.
-fn write_rows<W: Write>(rows: &[Row], out: &mut W) -> io::Result<()>
+fn write_rows<W: Write>(rows: &[ResultRow], out: &mut W) -> io::Result<()>
     ensures { OnOk result (Appends (W.contents out.old) (W.contents out.new) (row_lines rows.now)) }
 {
     for row in rows {
@@ -107,25 +107,26 @@ fn write_rows<W: Write>(rows: &[Row], out: &mut W) -> io::Result<()>
     Ok(())
 }
 
-fn write_row<W: Write>(values: &[Value], out: &mut W) -> io::Result<()>
-    ensures { OnOk result (Appends (W.contents out.old) (W.contents out.new) (row_text values.now)) }
+fn write_row<W: Write>(values: &[ResultValue], out: &mut W) -> io::Result<()>
+    ensures { OnOk result (Appends (W.contents out.old) (W.contents out.new) (row_text (map value_of values.now))) }
 {
     match values.split_first() {
         None => Ok(()),
         Some((first, others)) => {
-            write_value(first, out)?;
+            write_result_value(first, out)?;
             write_further_values(others, out)
         }
     }
 }
 
 /// The values behind the first, each behind a comma and a space.
-fn write_further_values<W: Write>(values: &[Value], out: &mut W) -> io::Result<()>
-    ensures { OnOk result (Appends (W.contents out.old) (W.contents out.new) (further_values values.now)) }
+fn write_further_values<W: Write>(values: &[ResultValue], out: &mut W) -> io::Result<()>
+    ensures { OnOk result (Appends (W.contents out.old) (W.contents out.new)
+        (further_values (map value_of values.now))) }
 {
     for value in values {
         write_word(", ", out)?;
-        write_value(value, out)?;
+        write_result_value(value, out)?;
     }
     Ok(())
 }
@@ -258,7 +259,7 @@ pub fn write_numbered<W: Write>(word: &str, number: u64, out: &mut W) -> io::Res
 pub fn write_number<W: Write>(number: u64, out: &mut W) -> io::Result<()>
     ensures { OnOk result (Appends (W.contents out.old) (W.contents out.new) (decimal number)) }
 {
-    write_word(Buffer::new().format(number), out)
+    write_integer(number, out)
 }
 
 fn write_keyed<W: Write>(word: &str, table: &Text, key: &Value, out: &mut W) -> io::Result<()>
@@ -293,13 +294,37 @@ fn write_value<W: Write>(value: &Value, out: &mut W) -> io::Result<()>
 {
     match value {
         Value::Null => write_word("NULL", out),
-        Value::Int(number) => write_word(Buffer::new().format(*number), out),
-        Value::Text(text) => {
-            write_word("'", out)?;
-            write_quoted(text, out)?;
-            write_word("'", out)
-        }
+        Value::Int(number) => write_integer(*number, out),
+        Value::Text(text) => write_literal(text, out),
     }
+}
+
+/// A value that a SELECT lists.
+fn write_result_value<W: Write>(value: &ResultValue, out: &mut W) -> io::Result<()>
+    ensures { OnOk result (Appends (W.contents out.old) (W.contents out.new) (value_text (value_of value.now))) }
+{
+    match value {
+        ResultValue::Null => write_word("NULL", out),
+        ResultValue::Number(number) => write_integer(*number, out),
+        ResultValue::Text(text) => write_literal(text, out),
+    }
+}
+
+/// A number in decimal, of any type of integers.
+fn write_integer<I: Integer, W: Write>(number: I, out: &mut W) -> io::Result<()>
+    ensures { OnOk result (Appends (W.contents out.old) (W.contents out.new) (I.text number)) }
+{
+    write_word(Buffer::new().format(number), out)
+}
+
+/// A text in quotes.
+fn write_literal<W: Write>(text: &Text, out: &mut W) -> io::Result<()>
+    ensures { OnOk result (Appends (W.contents out.old) (W.contents out.new)
+        (codes "'" ++ with_doubled_quotes text.now ++ codes "'")) }
+{
+    write_word("'", out)?;
+    write_quoted(text, out)?;
+    write_word("'", out)
 }
 
 /// The text with each quote in it written twice.

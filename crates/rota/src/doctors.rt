@@ -1,10 +1,10 @@
 //! A doctor's wish to go off call, and who is on call.
 
-use alone::Reply;
+use alone::{Reply, ResultValue};
 use session::{Access, Manager, Named, Receipt, Session, release, release_refused};
 use std::sync::Wait;
 use syntax::Statement;
-use value::{Refusal, Value};
+use value::Refusal;
 
 /// So often is the transaction tried. Each refusal for what others did means that another transaction was committed
 /// since it began, and no more than three doctors can go off call.
@@ -103,11 +103,11 @@ pub fn run_once<N: Named, R: Wait>(
 }
 
 /// The first values of the rows of a reply, summed up. NULL and texts count for nothing.
-pub fn sum_of(reply: &Reply) -> i64 {
-    let mut sum = 0i64;
+pub fn sum_of(reply: &Reply) -> i128 {
+    let mut sum = 0i128;
     if let Reply::Rows(rows) = reply {
         for row in rows.as_slice() {
-            if let Some(Value::Int(number)) = row.values().first() {
+            if let Some(ResultValue::Number(number)) = row.values().first() {
                 sum = sum.saturating_add(*number);
             }
         }

@@ -91,7 +91,7 @@ fn count_on_call<N: Named, R: Wait>(
     rt: &R,
     alloc: Global,
     manager: &Manager<N>,
-) -> anyhow::Result<i64> {
+) -> anyhow::Result<i128> {
     let mut clerk = manager.session(rt, &Text::from_str(alloc, "CLERK")?)?;
     let select = statement_of(alloc, "SELECT ONCALL FROM DUTY WHERE SHIFT = 7")?;
     let reply = run_once(rt, manager, &mut clerk, &select)?;

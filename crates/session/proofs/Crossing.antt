@@ -6,6 +6,8 @@ use Rattle.assertion.specs.contracts.assertions.Assertion as Assertion
 use Rattle.assertion.specs.contracts.forms.Form as Form
 use Rattle.commit.specs.contracts.cores.Core as Core
 use Rattle.assertcheck.specs.contracts.deletes.Delete as Delete
+use Rattle.form_check.specs.contracts.summaries.Summary as Summary
+use Rattle.assertcheck.specs.contracts.selects.Listing as Listing
 use Rattle.assertcheck.specs.contracts.selects.Select as Select
 use Rattle.assertcheck.specs.contracts.updates.Setting as Setting
 use Rattle.assertcheck.specs.contracts.updates.Update as Update
@@ -132,11 +134,23 @@ Delete-send = search (Cond-send, crosses, sendable) depth 60 fits 20000
 Delete-sync : IsSync Delete.the_field.row
 Delete-sync = search (Cond-sync, crosses, sendable) depth 60 fits 20000
 
+Summary-send : IsSend Summary.the_row
+Summary-send = search (Expr-send, crosses, sendable) depth 60 fits 20000
+
+Summary-sync : IsSync Summary.the_row
+Summary-sync = search (Expr-sync, crosses, sendable) depth 60 fits 20000
+
+Listing-send : IsSend Listing.the_field.row
+Listing-send = search (Expr-send, Summary-send, crosses, sendable) depth 60 fits 20000
+
+Listing-sync : IsSync Listing.the_field.row
+Listing-sync = search (Expr-sync, Summary-sync, crosses, sendable) depth 60 fits 20000
+
 Select-send : IsSend Select.the_field.row
-Select-send = search (Cond-send, crosses, sendable) depth 60 fits 20000
+Select-send = search (Cond-send, Listing-send, crosses, sendable) depth 60 fits 20000
 
 Select-sync : IsSync Select.the_field.row
-Select-sync = search (Cond-sync, crosses, sendable) depth 60 fits 20000
+Select-sync = search (Cond-sync, Listing-sync, crosses, sendable) depth 60 fits 20000
 
 Resolved-send : IsSend ResolvedStatement.the_row
 Resolved-send = search (Update-send, Delete-send, Select-send, Text.the_send, crosses, sendable) depth 60 fits 20000

@@ -101,21 +101,28 @@ pub free_name : Finds (λ _. 0) 0 g.name r.name
 unfolding r.name
 free_name = finds_then (λ _. 0) (λ _. 0) 0 0 (lang.token k.Name) _ _ _ (finds_expect (λ _. 0) 0 k.Name) (λ w a h. finds_pure (λ _. 0) 0 (g.name_of a)) (λ a v rest b h small. omega arith)
 
-no_correlation_name : (kind : Kind) → rank kind ≤ 3 → r.correlation_name_by kind ≡ pure None
+no_correlation_name : (kind : Kind) → rank kind ≤ 4 → r.correlation_name_by kind ≡ pure None
 no_correlation_name k.As small = absurd (omega arith)
 no_correlation_name k.Name small = absurd (omega arith)
 no_correlation_name _ small = refl
 
-correlation_name_f : Finds rank 3 g.correlation_name r.correlation_name
+pub correlation_name_f : Finds rank 4 g.correlation_name r.correlation_name
 unfolding g.correlation_name r.correlation_name
 correlation_name_f = record { finds = go }
   where
-    go : (w rest : Lexemes) (x : Option (List ℕ)) → lang.◌∪◌ (lang.◌∪◌ (lang.pure None) (lang.◌<$>◌ Some g.name)) (lang.◌>>◌ (lang.token k.As) (lang.◌<$>◌ Some g.name)) w x → rank (kind_at rest) ≤ 3 → Accepts (by_kind r.correlation_name_by (w ++ rest)) x rest
+    go : (w rest : Lexemes) (x : Option (List ℕ)) → lang.◌∪◌ (lang.◌∪◌ (lang.pure None) (lang.◌<$>◌ Some g.name)) (lang.◌>>◌ (lang.token k.As) (lang.◌<$>◌ Some g.name)) w x → rank (kind_at rest) ≤ 4 → Accepts (by_kind r.correlation_name_by (w ++ rest)) x rest
     go w rest x (inl (inl h)) small =
         subst (λ t. Accepts (by_kind r.correlation_name_by (t ++ rest)) x rest) (sym h.0)
-        (subst (λ p. Accepts (p rest) x rest) (sym (no_correlation_name (kind_at rest) small)) ((finds_pure rank 3 None).finds [] rest x (refl, h.1) small))
-    go w rest x (inl (inr h)) small = route r.correlation_name_by 3 (map_f 3 Some (name_f 3)) (opens_then (Goes r.correlation_name_by (rd.◌<$>◌ Some r.name)) (opens_then (Goes r.correlation_name_by (rd.◌<$>◌ Some r.name)) (opens_kind (Goes r.correlation_name_by (rd.◌<$>◌ Some r.name)) k.Name refl))) w rest x h small
-    go w rest x (inr h) small = pick r.correlation_name_by k.As 3 refl (seq_f 3 k.As (map_f 3 Some (name_f 3))) w rest x h small
+        (subst (λ p. Accepts (p rest) x rest) (sym (no_correlation_name (kind_at rest) small)) ((finds_pure rank 4 None).finds [] rest x (refl, h.1) small))
+    go w rest x (inl (inr h)) small = route r.correlation_name_by 4 (map_f 4 Some (name_f 4)) (opens_then (Goes r.correlation_name_by (rd.◌<$>◌ Some r.name)) (opens_then (Goes r.correlation_name_by (rd.◌<$>◌ Some r.name)) (opens_kind (Goes r.correlation_name_by (rd.◌<$>◌ Some r.name)) k.Name refl))) w rest x h small
+    go w rest x (inr h) small = pick r.correlation_name_by k.As 4 refl (seq_f 4 k.As (map_f 4 Some (name_f 4))) w rest x h small
+
+pub correlation_name_follows : Follows 5 4 g.correlation_name
+unfolding g.correlation_name
+correlation_name_follows =
+    let P : Kind → Type 0 = λ kind. rank kind ≤ 5 in
+    follows_either 5 4 (follows_either 5 4 (follows_pure 5 4 None (omega arith)) (follows_opens 5 4 (opens_then P (opens_then P (opens_kind P k.Name (omega arith))))))
+    (follows_opens 5 4 (opens_token P k.As (omega arith)))
 
 group_by_f : Finds rank 1 g.group_by r.group_by
 unfolding g.group_by r.group_by
@@ -739,7 +746,7 @@ module _ (n : ℕ) (inner : Language PartInParentheses) (reader : Want → Reade
 
   query_from_f : (list : SelectList) → Finds rank 0 (g.query_from inner list) (r.query_from n reader list)
   unfolding g.query_from r.query_from
-  query_from_f list = finds_then (λ _. 0) rank 0 0 _ _ r.name _ (free_name) (λ w table h. then_f 3 0 correlation_name_f (λ w other h. query_rest_f list table other) (query_rest_follows list table)) (λ x v rest b h small. omega arith)
+  query_from_f list = finds_then (λ _. 0) rank 0 0 _ _ r.name _ (free_name) (λ w table h. then_f 3 0 (lower 3 4 (omega arith) correlation_name_f) (λ w other h. query_rest_f list table other) (query_rest_follows list table)) (λ x v rest b h small. omega arith)
 
   query_f : Finds rank 0 (g.query inner) (r.query n reader)
   unfolding g.query r.query

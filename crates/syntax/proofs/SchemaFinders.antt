@@ -472,18 +472,18 @@ module _ (n l : ℕ) where
   unfolding dg.definitions r.definitions
   defs_f = all_f 1 0 r.starts_definition def_loop ended_def_f []
 
-  script_line_f : Finds rank 4 (dg.script_line (g.nested l)) (r.script_line n)
+  script_line_f : Finds rank 5 (dg.script_line (g.nested l)) (r.script_line n)
   unfolding dg.script_line r.script_line
-  script_line_f = named 4 (λ session. seq_f 4 k.Colon (then_f 0 4 (event_f n l) (λ w event h. seq_f 4 k.Semicolon (finds_pure rank 4 (dg.script_line_of session event))) (λ event. follows_opens 0 4 (opens_token (λ kind. rank kind ≤ 0) k.Semicolon (omega arith)))))
+  script_line_f = named 5 (λ session. seq_f 5 k.Colon (then_f 0 5 (event_f n l) (λ w event h. seq_f 5 k.Semicolon (finds_pure rank 5 (dg.script_line_of session event))) (λ event. follows_opens 0 5 (opens_token (λ kind. rank kind ≤ 0) k.Semicolon (omega arith)))))
 
   name_opening : (w : Lexemes) (x : List ℕ) → g.name w x → Opening r.starts_script_line g.name w
   name_opening w x h = token_opening r.starts_script_line k.Name _ refl w x h
 
-  script_line_loop : Loops rank 4 0 r.starts_script_line (dg.script_line (g.nested l))
+  script_line_loop : Loops rank 5 0 r.starts_script_line (dg.script_line (g.nested l))
   unfolding dg.script_line
   script_line_loop = record { opening = opening_then r.starts_script_line g.name _ name_opening; binds = binds; stops = stops; below = omega arith }
     where
-      binds : (kind : Kind) → r.starts_script_line kind ≡ true → rank kind ≤ 4
+      binds : (kind : Kind) → r.starts_script_line kind ≡ true → rank kind ≤ 5
       binds k.Name is = omega arith
       binds _ is = absurd (cc)
 
@@ -493,7 +493,7 @@ module _ (n l : ℕ) where
 
   script_f : Finds rank 0 (dg.script (g.nested l)) (r.script n)
   unfolding dg.script r.script
-  script_f = all_f 4 0 r.starts_script_line script_line_loop script_line_f []
+  script_f = all_f 5 0 r.starts_script_line script_line_loop script_line_f []
 
 -- the public calls' readers
 pub exact_schemas : Exact dg.schemas r.definitions

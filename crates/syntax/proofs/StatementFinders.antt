@@ -1,11 +1,12 @@
 -- Each reader of statements finds the texts of its part of the grammar.
-use Rattle.std.proofs.Common.{◌≡◌, ℕ, ◌+◌, ◌≤◌, true, false, List, ◌++◌, refl, inl, inr, arith}
+use Rattle.std.proofs.Common.{◌≡◌, ℕ, ◌+◌, ◌≤◌, true, false, List, ◌++◌, Option, Some, None, refl, inl, inr, arith}
 use Rattle.token.specs.declared.kinds.Kind.{Kind}
 use Rattle.token.specs.declared.kinds.Kind.TheVariants as k
 use Rattle.value.specs.declared.values.Value.{Value}
 use Rattle.value.specs.declared.values.Value.TheVariants as c
 use Rattle.syntax.specs.declared.statements.UpdateSource.{UpdateSource}
 use Rattle.syntax.specs.declared.statements.UpdateSource.TheVariants as to
+use Rattle.syntax.specs.declared.statements.DerivedColumn.{DerivedColumn}
 use Rattle.syntax.specs.declared.statements.Which.{Which}
 use Rattle.syntax.specs.declared.statements.Which.TheVariants as which
 use Rattle.syntax.specs.declared.statements.Mode.{Mode}
@@ -27,7 +28,7 @@ use Rattle.syntax.proofs.Loops.{finds_parens, finds_expect}
 use Rattle.syntax.proofs.Follow.{rank, Opens, opens_then, opens_token, opens_either, Follows, follows_opens, follows_map, then_f, map_f, seq_f, lower, pick, Goes, route}
 use Rattle.syntax.proofs.Parts.{optional_f, optional_follows, list_f}
 use Rattle.syntax.proofs.Whole.{Exact}
-use Rattle.syntax.proofs.Finders.{name_f, free_name, opens_kind, cond_at_f, expr_at_f, expressions_opens}
+use Rattle.syntax.proofs.Finders.{name_f, free_name, opens_kind, correlation_name_f, correlation_name_follows, cond_at_f, expr_at_f, expressions_opens}
 use Rattle.syntax.proofs.StatementSounds.{event_s}
 
 -- a name, and something behind it
@@ -72,16 +73,6 @@ constraints_f = record { finds = go }
     go w rest x (inr h) small =
         let P : Kind → Type 0 = Goes r.constraints_by (rd.◌<$>◌ which.Names (list q.name)) in
         route r.constraints_by 3 (map_f 3 which.Names (list_f (name_f 4))) (opens_then P (names_opens P refl)) w rest x h small
-
-selected_f : Finds rank 3 st.selected r.selected
-unfolding st.selected r.selected
-selected_f = record { finds = go }
-  where
-    go : (w rest : Lexemes) (x : Which) → lang.◌∪◌ (lang.◌>>◌ (lang.token k.Star) (lang.pure which.All)) (lang.◌<$>◌ which.Names (lang.list g.name)) w x → rank (kind_at rest) ≤ 3 → Accepts (by_kind r.selected_by (w ++ rest)) x rest
-    go w rest x (inl h) small = pick r.selected_by k.Star 3 refl (seq_f 3 k.Star (finds_pure rank 3 which.All)) w rest x h small
-    go w rest x (inr h) small =
-        let P : Kind → Type 0 = Goes r.selected_by (rd.◌<$>◌ which.Names (list q.name)) in
-        route r.selected_by 3 (map_f 3 which.Names (list_f (name_f 4))) (opens_then P (names_opens P refl)) w rest x h small
 
 columns_f : (n : ℕ) → Finds rank 0 st.columns (r.columns n)
 unfolding st.columns r.columns
@@ -143,31 +134,60 @@ module _ (n l : ℕ) where
   unfolding st.delete r.delete
   delete_f = seq_f 0 k.Delete (seq_f 0 k.From (named 0 (λ table. map_f 0 (s.Delete table) where_f)))
 
+  derived_column_f : Finds rank 4 (st.derived_column (g.nested l)) (r.derived_column n)
+  unfolding st.derived_column r.derived_column
+  derived_column_f =
+      then_f 5 4 (lower 5 7 (omega arith) (expr_at_f n l)) (λ w value h. map_f 4 (st.derived_column_of value) correlation_name_f)
+      (λ value. follows_map 5 4 (st.derived_column_of value) correlation_name_follows)
+
+  derived_opens : (P : Kind → Type 0) → Opens (g.expressions l) P → Opens (st.derived_column (g.nested l)) P
+  unfolding st.derived_column
+  derived_opens P opens = opens_then P opens
+
+  selected_f : Finds rank 3 (st.selected (g.nested l)) (r.selected n)
+  unfolding st.selected r.selected
+  selected_f = record { finds = go }
+    where
+      go : (w rest : Lexemes) (x : Option (List DerivedColumn))
+          → lang.◌∪◌ (lang.◌>>◌ (lang.token k.Star) (lang.pure None)) (lang.◌<$>◌ Some (lang.list (st.derived_column (g.nested l)))) w x → rank (kind_at rest) ≤ 3 → Accepts (by_kind (r.selected_by n) (w ++ rest)) x rest
+      go w rest x (inl h) small = pick (r.selected_by n) k.Star 3 refl (seq_f 3 k.Star (finds_pure rank 3 None)) w rest x h small
+      go w rest x (inr h) small =
+          let P : Kind → Type 0 = Goes (r.selected_by n) (rd.◌<$>◌ Some (list (r.derived_column n))) in
+          route (r.selected_by n) 3 (map_f 3 Some (list_f derived_column_f)) (opens_then P (opens_then P (derived_opens P
+          (expressions_opens l P (record { other = (record { text = refl; name = refl; open_ = refl; count = refl; sum = refl; min = refl; max = refl }); number = refl; plus = refl; minus = refl }))))) w rest x h small
+
   select_f : Finds rank 0 (st.select (g.nested l)) (r.select n)
   unfolding st.select r.select
-  select_f = seq_f 0 k.Select (then_f 0 0 (lower 0 3 (omega arith) selected_f) (λ w which h. seq_f 0 k.From (named 0 (λ table. map_f 0 (s.Select which table) where_f)))
-      (λ which. follows_opens 0 0 (opens_token (λ kind. rank kind ≤ 0) k.From (omega arith))))
+  select_f =
+      seq_f 0 k.Select (then_f 0 0 (lower 0 3 (omega arith) selected_f) (λ w columns h. seq_f 0 k.From (named 0 (λ table.
+      then_f 3 0 (lower 3 4 (omega arith) correlation_name_f) (λ w other h. map_f 0 (st.select_of columns table other) where_f)
+      (λ other. follows_map 3 0 (st.select_of columns table other) where_follows))))
+      (λ columns. follows_opens 0 0 (opens_token (λ kind. rank kind ≤ 0) k.From (omega arith))))
+
+  select_opens : (P : Kind → Type 0) → P k.Select → Opens (st.select (g.nested l)) P
+  unfolding st.select
+  select_opens P select = opens_token P k.Select select
 
   stmt_f : Finds rank 0 (st.statement (g.nested l)) (r.statement n)
-  unfolding st.statement r.statement st.update st.delete st.select st.set_constraints st.verdict
+  unfolding st.statement r.statement st.update st.delete st.set_constraints st.verdict
   stmt_f = record { finds = go }
     where
       go : (w rest : Lexemes) (x : Statement)
-          → lang.◌∪◌ (lang.◌∪◌ (lang.◌∪◌ (lang.◌∪◌ (lang.◌∪◌ (lang.◌<$>◌ s.Insert st.insert) (st.update (g.nested l))) (st.delete (g.nested l))) (st.select (g.nested l))) st.set_constraints) st.verdict w x
+          → lang.◌∪◌ (lang.◌∪◌ (lang.◌∪◌ (lang.◌∪◌ (lang.◌∪◌ (lang.◌<$>◌ s.Insert st.insert) (st.update (g.nested l))) (st.delete (g.nested l))) (lang.◌<$>◌ s.Select (st.select (g.nested l)))) st.set_constraints) st.verdict w x
           → rank (kind_at rest) ≤ 0 → Accepts (by_kind (r.statement_by n) (w ++ rest)) x rest
       go w rest x (inl (inl (inl (inl (inl h))))) small =
           let P : Kind → Type 0 = Goes (r.statement_by n) (rd.◌<$>◌ s.Insert (r.insert n)) in
           route (r.statement_by n) 0 (map_f 0 s.Insert (insert_f n)) (opens_then P (insert_opens P refl)) w rest x h small
       go w rest x (inl (inl (inl (inl (inr h))))) small = pick (r.statement_by n) k.Update 0 refl update_f w rest x h small
       go w rest x (inl (inl (inl (inr h)))) small = pick (r.statement_by n) k.Delete 0 refl delete_f w rest x h small
-      go w rest x (inl (inl (inr h))) small = pick (r.statement_by n) k.Select 0 refl select_f w rest x h small
+      go w rest x (inl (inl (inr h))) small = route (r.statement_by n) 0 (map_f 0 s.Select select_f) (opens_then (Goes (r.statement_by n) (rd.◌<$>◌ s.Select (r.select n))) (select_opens (Goes (r.statement_by n) (rd.◌<$>◌ s.Select (r.select n))) refl)) w rest x h small
       go w rest x (inl (inr h)) small = pick (r.statement_by n) k.Set 0 refl set_constraints_f w rest x h small
       go w rest x (inr h) small = pick (r.statement_by n) k.Verdict 0 refl verdict_f w rest x h small
 
   stmt_opens : (P : Kind → Type 0) → P k.Insert → P k.Update → P k.Delete → P k.Select → P k.Set → P k.Verdict → Opens (st.statement (g.nested l)) P
-  unfolding st.statement st.update st.delete st.select st.set_constraints st.verdict
+  unfolding st.statement st.update st.delete st.set_constraints st.verdict
   stmt_opens P insert update delete select set verdict =
-      opens_either P (opens_either P (opens_either P (opens_either P (opens_either P (opens_then P (insert_opens P insert)) (opens_token P k.Update update)) (opens_token P k.Delete delete)) (opens_token P k.Select select)) (opens_token P k.Set set)) (opens_token P k.Verdict verdict)
+      opens_either P (opens_either P (opens_either P (opens_either P (opens_either P (opens_then P (insert_opens P insert)) (opens_token P k.Update update)) (opens_token P k.Delete delete)) (opens_then P (select_opens P select))) (opens_token P k.Set set)) (opens_token P k.Verdict verdict)
 
   work_f : Finds rank 0 (lang.optional (lang.token k.Work)) (rd.optional k.Work (rd.expect k.Work))
   work_f = optional_f 0 k.Work (omega arith) (opens_kind (λ next. next ≡ k.Work) k.Work refl) (finds_expect rank 0 k.Work)

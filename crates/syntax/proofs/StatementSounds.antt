@@ -1,5 +1,5 @@
 -- Each reader of statements is sound for its part of the grammar.
-use Rattle.std.proofs.Common.{ℕ, ◌+◌, ◌<◌, true, false, refl, inl, inr}
+use Rattle.std.proofs.Common.{ℕ, ◌+◌, ◌<◌, true, false, Some, None, refl, inl, inr}
 use Rattle.token.specs.declared.kinds.Kind.{Kind}
 use Rattle.token.specs.declared.kinds.Kind.TheVariants as k
 use Rattle.value.specs.declared.values.Value.TheVariants as c
@@ -18,7 +18,7 @@ use Rattle.syntax.proofs.WordLaws.{Sound, sound_pure, sound_refuse, sound_by_kin
 use Rattle.syntax.proofs.Loops.{sound_parens}
 use Rattle.syntax.proofs.Short.{then_s, map_s, tok_s, seq_s, weak}
 use Rattle.syntax.proofs.Parts.{optional_s, list_s, some_list}
-use Rattle.syntax.proofs.Sounds.{name_s, cond_at_s, expr_at_s}
+use Rattle.syntax.proofs.Sounds.{name_s, correlation_name_s, cond_at_s, expr_at_s}
 
 null_s : (n : ℕ) → Sound n n st.constant (r.constant_by k.Null)
 unfolding st.constant
@@ -63,19 +63,6 @@ constraints_by_s n _ = named_constraints n
 constraints_s : (n : ℕ) → Sound n n st.constraints r.constraints
 unfolding r.constraints
 constraints_s n = sound_by_kind n n st.constraints r.constraints_by (constraints_by_s n)
-
-named_columns : (n : ℕ) → Sound n n st.selected (r.selected_by k.End)
-unfolding st.selected
-named_columns n = weak (λ w a h. inr h) (map_s which.Names (list_s (name_s n)))
-
-selected_by_s : (n : ℕ) (kind : Kind) → Sound n n st.selected (r.selected_by kind)
-unfolding st.selected
-selected_by_s n k.Star = weak (λ w a h. inl h) (seq_s k.Star refl (sound_pure n which.All))
-selected_by_s n _ = named_columns n
-
-selected_s : (n : ℕ) → Sound n n st.selected r.selected
-unfolding r.selected
-selected_s n = sound_by_kind n n st.selected r.selected_by (selected_by_s n)
 
 columns_s : (n : ℕ) → Sound n n st.columns (r.columns n)
 unfolding st.columns r.columns
@@ -129,9 +116,24 @@ module _ (n l : ℕ) (below : n + 1 < l) where
   unfolding st.delete r.delete
   delete_s = seq_s k.Delete refl (seq_s k.From refl (then_s (name_s n) (λ w table h. map_s (s.Delete table) where_s)))
 
+  derived_column_s : Sound n n (st.derived_column (g.nested l)) (r.derived_column n)
+  unfolding st.derived_column r.derived_column
+  derived_column_s = then_s (expr_at_s n l below) (λ w value h. map_s (st.derived_column_of value) (correlation_name_s n))
+
+  derived_columns : Sound n n (st.selected (g.nested l)) (r.selected_by n k.End)
+  unfolding st.selected
+  derived_columns = weak (λ w a h. inr h) (map_s Some (list_s derived_column_s))
+
+  selected_by_s : (kind : Kind) → Sound n n (st.selected (g.nested l)) (r.selected_by n kind)
+  unfolding st.selected
+  selected_by_s k.Star = weak (λ w a h. inl h) (seq_s k.Star refl (sound_pure n None))
+  selected_by_s _ = derived_columns
+
   select_s : Sound n n (st.select (g.nested l)) (r.select n)
-  unfolding st.select r.select
-  select_s = seq_s k.Select refl (then_s (selected_s n) (λ w which h. seq_s k.From refl (then_s (name_s n) (λ w table h. map_s (s.Select which table) where_s))))
+  unfolding st.select r.select r.selected
+  select_s =
+      seq_s k.Select refl (then_s (sound_by_kind n n (st.selected (g.nested l)) (r.selected_by n) selected_by_s) (λ w columns h.
+      seq_s k.From refl (then_s (name_s n) (λ w table h. then_s (correlation_name_s n) (λ w other h. map_s (st.select_of columns table other) where_s)))))
 
   insertion_s : Sound n n (st.statement (g.nested l)) (r.statement_by n k.Insert)
   unfolding st.statement
@@ -142,7 +144,7 @@ module _ (n l : ℕ) (below : n + 1 < l) where
   stmt_by_s k.Insert = insertion_s
   stmt_by_s k.Update = weak (λ w a h. inl (inl (inl (inl (inr h))))) update_s
   stmt_by_s k.Delete = weak (λ w a h. inl (inl (inl (inr h)))) delete_s
-  stmt_by_s k.Select = weak (λ w a h. inl (inl (inr h))) select_s
+  stmt_by_s k.Select = weak (λ w a h. inl (inl (inr h))) (map_s s.Select select_s)
   stmt_by_s k.Set = weak (λ w a h. inl (inr h)) (set_constraints_s n)
   stmt_by_s k.Verdict = weak (λ w a h. inr h) (verdict_s n)
   stmt_by_s _ = sound_refuse n n (st.statement (g.nested l)) insertion_s.begins

@@ -2,12 +2,15 @@
 use Rattle.std.specs.Prelude.{ℕ, Bool, true, false, List, Option, Some, None}
 use Rattle.token.specs.declared.kinds.Kind.TheVariants as k
 use Rattle.syntax.specs.declared.trees.Condition.{Condition}
+use Rattle.syntax.specs.declared.trees.Expression.{Expression}
 use Rattle.value.specs.declared.values.Value.{Value}
 use Rattle.value.specs.declared.values.Value.TheVariants as c
 use Rattle.syntax.specs.declared.statements.Insert.{Insert}
 use Rattle.syntax.specs.declared.statements.UpdateSource.{UpdateSource}
 use Rattle.syntax.specs.declared.statements.UpdateSource.TheVariants as to
 use Rattle.syntax.specs.declared.statements.Assignment.{Assignment}
+use Rattle.syntax.specs.declared.statements.DerivedColumn.{DerivedColumn}
+use Rattle.syntax.specs.declared.statements.Select.{Select}
 use Rattle.syntax.specs.declared.statements.Which.{Which}
 use Rattle.syntax.specs.declared.statements.Which.TheVariants as which
 use Rattle.syntax.specs.declared.statements.Mode.{Mode}
@@ -17,7 +20,7 @@ use Rattle.syntax.specs.declared.statements.Statement.TheVariants as s
 use Rattle.syntax.specs.declared.statements.Event.{Event}
 use Rattle.syntax.specs.declared.statements.Event.TheVariants as event
 use Rattle.syntax.specs.declared.wants.PartInParentheses.{PartInParentheses}
-use Rattle.syntax.specs.Grammar.{digits_value, signed_number, text_in_quotes, name, inner_cond, inner_expr, nested}
+use Rattle.syntax.specs.Grammar.{digits_value, signed_number, text_in_quotes, name, correlation_name, inner_cond, inner_expr, nested}
 use Rattle.syntax.specs.Language.{Lexeme, Language, ◌>>=◌, ◌>>◌, ◌<$>◌, ◌∪◌, pure, token, optional, list, parens, Some_level}
 
 -- the constant of a number's token, with its sign
@@ -60,10 +63,6 @@ check_time = (token k.Deferred >> pure mode.Deferred) ∪ (token k.Immediate >> 
 unfoldable pub constraints : Language Which
 constraints = (token k.All >> pure which.All) ∪ (which.Names <$> list name)
 
--- "*" | name { "," name }
-unfoldable pub selected : Language Which
-selected = (token k.Star >> pure which.All) ∪ (which.Names <$> list name)
-
 -- SET CONSTRAINTS ( ALL | name { "," name } ) ( DEFERRED | IMMEDIATE )
 unfoldable pub set_constraints : Language Statement
 set_constraints =
@@ -76,6 +75,15 @@ verdict = token k.Verdict >> (s.Verdict <$> name)
 -- the tree of a set clause of an update statement: a column, and what it is given
 abbrev pub assignment_of : List ℕ → UpdateSource → Assignment
 assignment_of column value = record { column = column; value = value }
+
+-- the tree of a derived column: an expression, and its name
+abbrev pub derived_column_of : Expression → Option (List ℕ) → DerivedColumn
+derived_column_of value name = record { value = value; name = name }
+
+-- the tree of a select statement
+abbrev pub select_of : Option (List DerivedColumn) → List ℕ → Option (List ℕ) → Option Condition → Select
+select_of columns table correlation_name keeps =
+    record { columns = columns; table = table; correlation_name = correlation_name; keeps = keeps }
 
 -- [READ ONLY], behind BEGIN
 abbrev pub begin_of : Option Lexeme → Event
@@ -109,15 +117,23 @@ module _ (inner : Language PartInParentheses) where
   unfoldable pub delete : Language Statement
   delete = token k.Delete >> (token k.From >> (name >>= (λ table. s.Delete table <$> where_clause)))
 
-  -- SELECT ( "*" | name { "," name } ) FROM name [WHERE cond]
-  unfoldable pub select : Language Statement
+  -- item: expr [ [AS] name ]; the name is spelled as a correlation name is
+  unfoldable pub derived_column : Language DerivedColumn
+  derived_column = inner_expr inner >>= (λ value. derived_column_of value <$> correlation_name)
+
+  -- "*" | item { "," item }
+  unfoldable pub selected : Language (Option (List DerivedColumn))
+  selected = (token k.Star >> pure None) ∪ (Some <$> list derived_column)
+
+  -- SELECT ( "*" | item { "," item } ) FROM name [ [AS] name ] [WHERE cond]
+  unfoldable pub select : Language Select
   select =
-      token k.Select >> (selected >>= (λ which.
-      token k.From >> (name >>= (λ table. s.Select which table <$> where_clause))))
+      token k.Select >> (selected >>= (λ columns. token k.From >> (name >>= (λ table.
+      correlation_name >>= (λ other. select_of columns table other <$> where_clause)))))
 
   -- stmt: what a transaction may run
   unfoldable pub statement : Language Statement
-  statement = (s.Insert <$> insert) ∪ update ∪ delete ∪ select ∪ set_constraints ∪ verdict
+  statement = (s.Insert <$> insert) ∪ update ∪ delete ∪ (s.Select <$> select) ∪ set_constraints ∪ verdict
 
   -- BEGIN [READ ONLY] | COMMIT [WORK] | ROLLBACK [WORK] | stmt
   unfoldable pub one_event : Language Event

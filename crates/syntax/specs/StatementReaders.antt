@@ -1,5 +1,5 @@
 -- Readers of statements and events, by the next token alone.
-use Rattle.std.specs.Prelude.{ℕ, true, false, List, Option}
+use Rattle.std.specs.Prelude.{ℕ, true, false, List, Option, Some, None}
 use Rattle.token.specs.declared.kinds.Kind.{Kind}
 use Rattle.token.specs.declared.kinds.Kind.TheVariants as k
 use Rattle.syntax.specs.declared.trees.Condition.{Condition}
@@ -9,6 +9,8 @@ use Rattle.syntax.specs.declared.statements.Insert.{Insert}
 use Rattle.syntax.specs.declared.statements.UpdateSource.{UpdateSource}
 use Rattle.syntax.specs.declared.statements.UpdateSource.TheVariants as to
 use Rattle.syntax.specs.declared.statements.Assignment.{Assignment}
+use Rattle.syntax.specs.declared.statements.DerivedColumn.{DerivedColumn}
+use Rattle.syntax.specs.declared.statements.Select.{Select}
 use Rattle.syntax.specs.declared.statements.Which.{Which}
 use Rattle.syntax.specs.declared.statements.Which.TheVariants as which
 use Rattle.syntax.specs.declared.statements.Mode.{Mode}
@@ -17,8 +19,8 @@ use Rattle.syntax.specs.declared.statements.Statement.{Statement}
 use Rattle.syntax.specs.declared.statements.Statement.TheVariants as s
 use Rattle.syntax.specs.declared.statements.Event.{Event}
 use Rattle.syntax.specs.declared.statements.Event.TheVariants as event
-use Rattle.syntax.specs.Readers.{name, cond_at, expr_at}
-use Rattle.syntax.specs.StatementGrammar.{number_of, text_of, insert_of, assignment_of, begin_of}
+use Rattle.syntax.specs.Readers.{name, correlation_name, cond_at, expr_at}
+use Rattle.syntax.specs.StatementGrammar.{number_of, text_of, insert_of, assignment_of, derived_column_of, select_of, begin_of}
 use Rattle.syntax.specs.Reading.{Reader, ◌>>=◌, ◌>>◌, ◌<$>◌, pure, refuse, by_kind, expect, optional, list, parens}
 
 -- a constant, by the kind of the next token
@@ -52,15 +54,6 @@ constraints_by _ = which.Names <$> list name
 -- reads ALL | name { "," name }
 unfoldable pub constraints : Reader Which
 constraints = by_kind constraints_by
-
--- what a SELECT lists, by the kind of the next token
-abbrev pub selected_by : Kind → Reader Which
-selected_by k.Star = expect k.Star >> pure which.All
-selected_by _ = which.Names <$> list name
-
--- reads "*" | name { "," name }
-unfoldable pub selected : Reader Which
-selected = by_kind selected_by
 
 -- reads a set constraints mode statement
 unfoldable pub set_constraints : Reader Statement
@@ -118,18 +111,31 @@ module _ (n : ℕ) where
   unfoldable pub delete : Reader Statement
   delete = expect k.Delete >> (expect k.From >> (name >>= (λ table. s.Delete table <$> where_clause)))
 
-  -- reads SELECT of a table's rows
-  unfoldable pub select : Reader Statement
+  -- reads item: a derived column of a select statement
+  unfoldable pub derived_column : Reader DerivedColumn
+  derived_column = expr_at n >>= (λ value. derived_column_of value <$> correlation_name)
+
+  -- what a SELECT lists, by the kind of the next token
+  abbrev pub selected_by : Kind → Reader (Option (List DerivedColumn))
+  selected_by k.Star = expect k.Star >> pure None
+  selected_by _ = Some <$> list derived_column
+
+  -- reads "*" | item { "," item }
+  unfoldable pub selected : Reader (Option (List DerivedColumn))
+  selected = by_kind selected_by
+
+  -- reads a select statement
+  unfoldable pub select : Reader Select
   select =
-      expect k.Select >> (selected >>= (λ which.
-      expect k.From >> (name >>= (λ table. s.Select which table <$> where_clause))))
+      expect k.Select >> (selected >>= (λ columns. expect k.From >> (name >>= (λ table.
+      correlation_name >>= (λ other. select_of columns table other <$> where_clause)))))
 
   -- a statement, by the kind of the next token
   abbrev pub statement_by : Kind → Reader Statement
   statement_by k.Insert = s.Insert <$> insert
   statement_by k.Update = update
   statement_by k.Delete = delete
-  statement_by k.Select = select
+  statement_by k.Select = s.Select <$> select
   statement_by k.Set = set_constraints
   statement_by k.Verdict = verdict
   statement_by _ = refuse

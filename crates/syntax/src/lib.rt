@@ -94,9 +94,10 @@
 //! when   = INITIALLY ( DEFERRED | IMMEDIATE )              defer = [NOT] DEFERRABLE
 //! event  = BEGIN [READ ONLY] | COMMIT [WORK] | ROLLBACK [WORK] | stmt
 //! stmt   = insert | UPDATE name SET set { "," set } [WHERE cond] | DELETE FROM name [WHERE cond]
-//!        | SELECT ( "*" | name { "," name } ) FROM name [WHERE cond]
+//!        | SELECT ( "*" | item { "," item } ) FROM name [ [AS] name ] [WHERE cond]
 //!        | SET CONSTRAINTS ( ALL | name { "," name } ) ( DEFERRED | IMMEDIATE ) | VERDICT name
-//! insert = INSERT INTO name [ "(" name { "," name } ")" ] VALUES "(" const { "," const } ")"
+//! insert = INSERT INTO name [ "(" name { "," name } ")" ] VALUES row { "," row }
+//! item   = expr [ [AS] name ]                              row = "(" const { "," const } ")"
 //! const  = NULL | text | [sign] number                     set = name "=" ( NULL | expr )
 //! ```
 //!
@@ -126,7 +127,10 @@ pub use definitions::{
 };
 pub use laws::condition_has_one_tree;
 pub use statement_laws::{event_has_one_tree, schema_has_one_tree, script_has_one_tree};
-pub use statements::{Assignment, Event, Insert, Mode, ScriptLine, Statement, UpdateSource, Which};
+pub use statements::{
+    Assignment, DerivedColumn, Event, Insert, Mode, ScriptLine, Select, Statement, UpdateSource,
+    Which,
+};
 pub use trees::{
     Aggregate, Argument, ColumnName, Condition, Expression, Query, SelectList, SetQuantifier,
 };

@@ -26,7 +26,23 @@ pub struct Assignment {
     pub value: UpdateSource,
 }
 
-/// All of them, or those with these names: columns of a SELECT, or assertions.
+/// A derived column of a SELECT: an expression, and the name that it gets with AS.
+#[derive(Drop)]
+pub struct DerivedColumn {
+    pub value: Expression,
+    pub name: Option<Text>,
+}
+
+/// A SELECT of a table. Where no columns are written, it lists all those of the table.
+#[derive(Drop)]
+pub struct Select {
+    pub columns: Option<Items<DerivedColumn>>,
+    pub table: Text,
+    pub correlation_name: Option<Text>,
+    pub keeps: Option<Boxed<Condition>>,
+}
+
+/// All assertions, or those with these names.
 #[derive(Drop)]
 pub enum Which {
     All,
@@ -53,11 +69,7 @@ pub enum Statement {
         table: Text,
         keeps: Option<Boxed<Condition>>,
     },
-    Select {
-        columns: Which,
-        table: Text,
-        keeps: Option<Boxed<Condition>>,
-    },
+    Select(Select),
     SetConstraints {
         assertions: Which,
         mode: Mode,

@@ -11,7 +11,9 @@ use Rattle.syntax.proofs.trees.Condition.TheLaws.TheKnot as conditions
 use Rattle.syntax.specs.contracts.trees.Condition as Condition
 use Rattle.syntax.specs.contracts.trees.Expression as Expression
 use Rattle.syntax.specs.contracts.statements.Assignment as Assignment
+use Rattle.syntax.specs.contracts.statements.DerivedColumn as DerivedColumn
 use Rattle.syntax.specs.contracts.statements.ScriptLine as ScriptLine
+use Rattle.syntax.specs.contracts.statements.Select as Select
 use Rattle.journal.specs.declared.device.Device as device
 use Rattle.threads.specs.contracts.keeping.Commits as Commits
 use Rattle.threads.specs.contracts.keeping.Keeping as Keeping
@@ -27,8 +29,14 @@ Condition-sync = search (conditions.crosses, crosses, sendable) depth 60 fits 20
 Assignment-sync : IsSync Assignment.the_row
 Assignment-sync = search (Expression-sync, crosses, sendable) depth 60 fits 20000
 
+DerivedColumn-sync : IsSync DerivedColumn.the_row
+DerivedColumn-sync = search (Expression-sync, Text.the_sync, crosses, sendable) depth 60 fits 20000
+
+Select-sync : IsSync Select.the_field.row
+Select-sync = search (Condition-sync, DerivedColumn-sync, Text.the_sync, crosses, sendable) depth 60 fits 20000
+
 ScriptLine-sync : IsSync ScriptLine.the_row
-ScriptLine-sync = search (Condition-sync, Assignment-sync, Text.the_sync, crosses, sendable) depth 60 fits 20000
+ScriptLine-sync = search (Condition-sync, Assignment-sync, Select-sync, Text.the_sync, crosses, sendable) depth 60 fits 20000
 
 pub Script-sync : IsSync Script.the_row
 Script-sync = search (ScriptLine-sync, Text.the_sync, crosses, sendable) depth 60 fits 20000

@@ -8,6 +8,7 @@ use Rattle.table.specs.Rows.{key_of}
 use Rattle.assertcheck.specs.declared.deletes.Delete.{Delete}
 use Rattle.assertcheck.specs.declared.selects.Select.{Select}
 use Rattle.assertcheck.specs.declared.updates.Update.{Update}
+use Rattle.assertcheck.specs.Selects.{IsBoundedListing}
 use Rattle.assertcheck.specs.Updates.{IsBoundedSetting}
 use Rattle.alone.specs.declared.statements.ResolvedStatement.{ResolvedStatement}
 use Rattle.alone.specs.declared.statements.ResolvedStatement.TheVariants as resolved
@@ -35,6 +36,7 @@ pub record IsRunnableDelete (declared : Declared) (delete : Delete) : Type 0 whe
 -- what is known of a SELECT
 pub record IsRunnableSelect (declared : Declared) (select : Select) : Type 0 where
   pub table_in : select.table < length declared.tables
+  pub bounded_listing : IsBoundedListing select.listing
   pub bounded : IsTrue (is_bounded [] select.filter)
 
 -- what is known of any statement; one that was refused found its refusal, and was not out of memory

@@ -8,7 +8,7 @@ use alone::Record;
 use siread::LockKey;
 use sqlite_items::Items;
 use std::alloc::{AllocError, Global};
-use table::{Change, Expr, Row};
+use table::{Aggregate, Change, Expr, Row};
 use value::Text;
 
 /// What has a copy equal to it where there is memory. `Clone` could not answer that there is none.
@@ -44,8 +44,8 @@ pub fn copy_if<T: Part + Drop>(alloc: Global, part: &Option<T>) -> Result<Option
     }
 }
 
-impl Part for usize {
-    fn copy_in(&self, _alloc: Global) -> Result<usize, AllocError>
+impl Part for Aggregate {
+    fn copy_in(&self, _alloc: Global) -> Result<Aggregate, AllocError>
         ensures { IfOk result (λ copy. copy ≡ self.now) }
     {
         Ok(*self)

@@ -48,11 +48,7 @@ pub fn resolve(
             Ok(delete) => Ok(ResolvedStatement::Delete(delete)),
             Err(refusal) => Ok(ResolvedStatement::Refused(unless_memory(refusal)?)),
         },
-        Statement::Select {
-            columns,
-            table,
-            keeps,
-        } => match check_select(alloc, catalog, columns, table, keeps) {
+        Statement::Select(select) => match check_select(alloc, catalog, select) {
             Ok(select) => Ok(ResolvedStatement::Select(select)),
             Err(refusal) => Ok(ResolvedStatement::Refused(unless_memory(refusal)?)),
         },

@@ -13,7 +13,7 @@ ghost use Rattle.alone.specs.declared.answers.Reply.TheVariants.{ModesSet};
 ghost use Rattle.alone.specs.Alone.{step_of_effect, modes_step, step_alone, verdict_step};
 ghost use Rattle.alone.specs.Reads.{filter_key};
 ghost use Rattle.alone.specs.States.{IsState, net_change};
-ghost use Rattle.alone.specs.Statements.{Effect as AnyEffect, found_rows, places_in, place_in, selected_rows};
+ghost use Rattle.alone.specs.Statements.{Effect as AnyEffect, found_rows, places_in, place_in, listed_rows};
 ghost use Rattle.changes.specs.Nets.{AreChangesBetween, AreNoted};
 ghost use Rattle.txn.specs.Effects.{ArePutIn};
 ghost use Rattle.txn.specs.Runnable.{IsRunnable, IsRunnableDelete, IsRunnableSelect, IsRunnableUpdate};
@@ -25,7 +25,7 @@ use crate::effects::{Effect, delete_effect, filter_on, recall_order, recall_tabl
 use crate::resolutions::unless_memory;
 use alone::{Modes, Reply, ResolvedStatement};
 use assertcheck::{Delete, NewRows, Select, Update};
-use changes::{TouchedRows, checks_read, push_checks, selected_rows, tables_read};
+use changes::{TouchedRows, checks_read, listed_rows, push_checks, tables_read};
 use delta::View;
 use siread::{LockKey, Place};
 use sqlite_items::Items;
@@ -330,13 +330,13 @@ fn leave_modes_unless(violated: Option<Refusal>, modes: Modes, reads: Vec<LockKe
     }
 }
 
-/// SELECT: the listed values of the rows that its condition keeps, in key order.
+/// SELECT: what it lists of the rows that its condition keeps.
 fn run_select(alloc: Global, own: &View, select: &Select) -> Result<StepResult, AllocError>
     requires runnable { IsRunnableSelect own.now.declared select.now }
     ensures reply { IfOk result (λ done.
         done.reply
         ≡ Ok (replies.Rows
-        (selected_rows select.now.columns (found_rows own.now.state select.now.table select.now.filter)))) }
+        (listed_rows select.now.listing (found_rows own.now.state select.now.table select.now.filter)))) }
     ensures same { IfOk result (λ done. (done.view ≡ None) × (done.modes ≡ None) × (done.changes.items ≡ [])) }
     ensures reads { IfOk result (λ done.
         done.reads.items
@@ -344,8 +344,7 @@ fn run_select(alloc: Global, own: &View, select: &Select) -> Result<StepResult, 
 {
     let filter = filter_on(own, select.table, &select.filter)?;
     recall_table(own, select.table);
-    let listed = select.columns.as_slice();
-    let rows = selected_rows(alloc, own.rows(select.table), listed, &filter)?;
+    let rows = listed_rows(alloc, own.rows(select.table), &select.listing, &filter)?;
     let reads = list_one(alloc, filter.into_read())?;
     Ok(answer_with(Reply::Rows(Items::from_vec(rows)), reads))
 }

@@ -4,7 +4,8 @@ ghost use Rattle.std.specs.Prelude.{◌≡◌, IfOk};
 
 use crate::copies::{Part, copy_all, copy_if};
 use alone::ResolvedStatement;
-use assertcheck::{Delete, NewRows, Select, Setting, Update};
+use assertcheck::{Delete, Listing, NewRows, Select, Setting, Update};
+use form_check::Summary;
 use sqlite_items::Items;
 use std::alloc::{AllocError, Global};
 
@@ -66,12 +67,35 @@ fn copy_delete(alloc: Global, delete: &Delete) -> Result<Delete, AllocError>
 fn copy_select(alloc: Global, select: &Select) -> Result<Select, AllocError>
     ensures { IfOk result (λ copy. copy ≡ select.now) }
 {
-    let columns = copy_all(alloc, select.columns.as_slice())?;
+    let listing = copy_listing(alloc, &select.listing)?;
     Ok(Select {
         table: select.table,
-        columns,
+        listing,
         filter: select.filter.copy(alloc)?,
     })
+}
+
+fn copy_listing(alloc: Global, listing: &Listing) -> Result<Listing, AllocError>
+    ensures { IfOk result (λ copy. copy ≡ listing.now) }
+{
+    match listing {
+        Listing::EachRow(values) => Ok(Listing::EachRow(copy_all(alloc, values.as_slice())?)),
+        Listing::AllRows(summaries) => {
+            Ok(Listing::AllRows(copy_all(alloc, summaries.as_slice())?))
+        }
+    }
+}
+
+impl Part for Summary {
+    fn copy_in(&self, alloc: Global) -> Result<Summary, AllocError>
+        ensures { IfOk result (λ copy. copy ≡ self.now) }
+    {
+        let aggregates = copy_all(alloc, self.aggregates.as_slice())?;
+        Ok(Summary {
+            aggregates,
+            value: self.value.copy(alloc)?,
+        })
+    }
 }
 
 fn copy_update(alloc: Global, update: &Update) -> Result<Update, AllocError>

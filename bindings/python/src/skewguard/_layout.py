@@ -6,7 +6,7 @@ import re
 from struct import Struct
 from typing import Any, Iterable, List, NoReturn, Tuple
 
-from ._numbers import Kind
+from ._numbers import Kind, ValueKind
 from .errors import ALL, ParameterError
 
 NUMBER = Struct("<q")
@@ -147,11 +147,13 @@ class Reader:
         """A value, or ALL. Where there is none it is None, as for NULL."""
         kind = self._bytes[self._at]
         self._at += 1
-        if kind == 1:
+        if kind == ValueKind.NUMBER:
             return self.number()
-        if kind == 2:
+        if kind == ValueKind.CHARACTERS:
             return self.text()
-        return ALL if kind == 3 else None
+        if kind == ValueKind.NUMERIC:
+            return int(self.text())
+        return ALL if kind == ValueKind.ALL else None
 
     def values(self, count: int) -> List[Any]:
         value = self.value

@@ -70,3 +70,14 @@ class Kind:
     SEVERAL = 17
     UNRESTORED = 18
     IMAGE = 19
+
+
+class ValueKind:
+    """What a value is."""
+
+    NULL = 0
+    NUMBER = 1
+    CHARACTERS = 2
+    ALL = 3
+    NO_VALUE = 4
+    NUMERIC = 5

@@ -68,9 +68,10 @@ class Row(_Values):
 def row_type(columns: Tuple[str, ...]) -> Type[Row]:
     """The type of rows with these columns. A column that stands twice is found at its first place.
 
-    The columns are attributes too, as they are written in the table: in upper case, in which no method is.
+    The columns are attributes too, as they are written in the table: in upper case, in which no method is. So is what
+    AS gives and the name of a set function; `?column?`, which other expressions are called, is no name of an attribute.
     """
-    places = {name: place for place, name in reversed(list(enumerate(columns)))}
+    places = {name.upper(): place for place, name in reversed(list(enumerate(columns)))}
     members: Dict[str, Any] = {name: property(itemgetter(place)) for name, place in places.items()}
     return type("Row", (Row,), {**members, "__slots__": (), "columns": columns, "_places": places})
 

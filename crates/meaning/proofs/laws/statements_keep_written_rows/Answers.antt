@@ -1,14 +1,12 @@
-use Rattle.meaning.proofs.Checked.{DeletesRows-law, SelectsRows-law, ListsColumns-law, UpdatesRows-law, UpdatesColumns-law}
+use Rattle.meaning.proofs.Checked.{DeletesRows-law, UpdatesRows-law, UpdatesColumns-law}
+use Rattle.meaning.proofs.Selects.{SelectsWritten-law}
 use Rattle.meaning.proofs.laws.statements_keep_written_rows.Goals as goal
 
 pub returns-clause-delete : goal.returns-clause-delete
 returns-clause-delete c = DeletesRows-law
 
 pub returns-clause-select : goal.returns-clause-select
-returns-clause-select c = SelectsRows-law
-
-pub returns-clause-list : goal.returns-clause-list
-returns-clause-list c = ListsColumns-law
+returns-clause-select c = SelectsWritten-law
 
 pub returns-clause-update : goal.returns-clause-update
 returns-clause-update c = UpdatesRows-law

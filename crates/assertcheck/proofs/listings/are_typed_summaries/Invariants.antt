@@ -1,0 +1,10 @@
+use Rattle.std.proofs.Common.{◌≡◌, drop}
+use Rattle.std.specs.List.{list_all}
+use Rattle.assertcheck.specs.Selects.{is_typed_summary}
+use Rattle.assertcheck.proofs.listings.are_typed_summaries.Given as goal
+
+-- all are typed where those that are left are
+abbrev pub invariant-loop-summary : goal.invariant-loop-summary
+invariant-loop-summary l =
+    list_all (is_typed_summary l.columns) (drop l.summary-index l.summaries)
+    ≡ list_all (is_typed_summary l.columns) l.summaries

@@ -1,0 +1,209 @@
+//! What a SELECT lists.
+
+ghost use Rattle.std.specs.Prelude.{◌≡◌, ◌<◌, ◌^◌, [], All, IfOk, IsSome, IsTrue, length, map};
+ghost use Rattle.value.specs.Ordered.{IsAscending};
+ghost use Rattle.value.specs.ValueOrder.{value_cmp};
+ghost use Rattle.table.specs.Aggregates.{aggregate as aggregate_of};
+ghost use Rattle.table.specs.Bounds.{IsSmallRow, bound_of, is_bounded};
+ghost use Rattle.table.specs.Eval.{answer};
+ghost use Rattle.table.specs.Kinds.{kind_of_aggregate};
+ghost use Rattle.table.specs.Rows.{value_in};
+ghost use Rattle.table.specs.Slots.{IsWithinKind, kind_of, kinds_of, value_of, values_of};
+ghost use Rattle.assertion.specs.Meaning.{filtered_rows};
+ghost use Rattle.groups.specs.Answers.{value_for};
+ghost use Rattle.assertcheck.specs.Selects.{IsBoundedListing, IsBoundedSummary};
+ghost use Rattle.alone.specs.Results.{value_of as result_value};
+ghost use Rattle.alone.specs.Statements.{listed_rows, summary_value};
+ghost use Rattle.assertcheck.specs.declared.selects.Listing.TheVariants as listings;
+
+use crate::filtered::filtered_rows;
+use crate::filters::TableFilter;
+use alone::{ResultRow, ResultValue};
+use assertcheck::Listing;
+use form_check::Summary;
+use groups::Total;
+use mvrows::Rows;
+use std::alloc::{AllocError, Global};
+use table::{Aggregate, Expr, Row, SlotValue, Slots, evaluate, value_at};
+use value::Value;
+
+/// What a SELECT lists of the rows that its WHERE keeps: of each row, in key order, or of all together. `rows` are those
+/// that stand in the WHERE's table now.
+pub fn listed_rows(
+    alloc: Global,
+    rows: &Rows,
+    listing: &Listing,
+    filter: &TableFilter<'_>,
+) -> Result<Vec<ResultRow>, AllocError>
+    requires bounded_listing { IsBoundedListing listing.now }
+    requires bounded { IsTrue (is_bounded [] filter.now.condition) }
+    requires small { All IsSmallRow rows.now }
+    requires ordered { IsAscending value_cmp (value_in filter.now.key) rows.now }
+    ensures { IfOk result (λ made. made.items
+        ≡ listed_rows listing.now (filtered_rows filter.now.condition rows.now)) }
+{
+    match listing {
+        Listing::EachRow(values) => each_row(alloc, rows, values.as_slice(), filter),
+        Listing::AllRows(summaries) => all_rows(alloc, rows, summaries.as_slice(), filter),
+    }
+}
+
+/// What these expressions give of each row.
+fn each_row(
+    alloc: Global,
+    rows: &Rows,
+    values: &[Expr],
+    filter: &TableFilter<'_>,
+) -> Result<Vec<ResultRow>, AllocError>
+    requires bounded_values { IsBoundedListing (listings.EachRow values.now) }
+    requires bounded { IsTrue (is_bounded [] filter.now.condition) }
+    requires small { All IsSmallRow rows.now }
+    requires ordered { IsAscending value_cmp (value_in filter.now.key) rows.now }
+    ensures { IfOk result (λ made. made.items
+        ≡ listed_rows (listings.EachRow values.now) (filtered_rows filter.now.condition rows.now)) }
+{
+    let slots = Slots::new(alloc);
+    let mut made = Vec::new(alloc);
+    for row in filtered_rows(alloc, rows, filter) {
+        made.push(values_of_row(alloc, values, row, &slots)?)?;
+    }
+    Ok(made)
+}
+
+/// What these expressions give of a row.
+fn values_of_row(
+    alloc: Global,
+    values: &[Expr],
+    row: &Row,
+    slots: &Slots,
+) -> Result<ResultRow, AllocError>
+    requires bounded { All (λ value. IsSome (bound_of (kinds_of slots.now) value)) values.now }
+    requires small { IsSmallRow row.now }
+    ensures { IfOk result (λ made. made ≡ map (answer row.now (values_of slots.now)) values.now) }
+{
+    let mut made = Vec::with_capacity(alloc, values.len())?;
+    for value in values {
+        made.push(ResultValue::of(evaluate(value, row, slots))?)?;
+    }
+    Ok(ResultRow::new(made))
+}
+
+/// The one row of what these expressions give of all rows together.
+fn all_rows(
+    alloc: Global,
+    rows: &Rows,
+    summaries: &[Summary],
+    filter: &TableFilter<'_>,
+) -> Result<Vec<ResultRow>, AllocError>
+    requires bounded_summaries { All IsBoundedSummary summaries.now }
+    requires bounded { IsTrue (is_bounded [] filter.now.condition) }
+    requires small { All IsSmallRow rows.now }
+    requires ordered { IsAscending value_cmp (value_in filter.now.key) rows.now }
+    ensures { IfOk result (λ made. made.items
+        ≡ listed_rows (listings.AllRows summaries.now) (filtered_rows filter.now.condition rows.now)) }
+{
+    let kept = kept_rows(alloc, rows, filter)?;
+    let row = summary_row(alloc, summaries, &kept)?;
+    let mut made = Vec::with_capacity(alloc, 1)?;
+    made.push(row)?;
+    Ok(made)
+}
+
+/// The rows that the WHERE keeps.
+fn kept_rows<'a>(
+    alloc: Global,
+    rows: &'a Rows,
+    filter: &TableFilter<'a>,
+) -> Result<Vec<&'a Row>, AllocError>
+    requires bounded { IsTrue (is_bounded [] filter.now.condition) }
+    requires small { All IsSmallRow rows.now }
+    requires ordered { IsAscending value_cmp (value_in filter.now.key) rows.now }
+    ensures rows { IfOk result (λ kept. map (λ row. row.now) kept.items
+        ≡ filtered_rows filter.now.condition rows.now) }
+    ensures small { IfOk result (λ kept. All IsSmallRow (map (λ row. row.now) kept.items)) }
+    ensures short { IfOk result (λ kept. length (map (λ row. row.now) kept.items) < 2 ^ 63) }
+{
+    // (its contract says that they are fewer than 2^63, and so are those that are kept)
+    let _most = rows.len();
+    let mut kept = Vec::new(alloc);
+    for row in filtered_rows(alloc, rows, filter) {
+        kept.push(row)?;
+    }
+    Ok(kept)
+}
+
+/// What each of these expressions gives of some rows together.
+fn summary_row(alloc: Global, summaries: &[Summary], rows: &[&Row]) -> Result<ResultRow, AllocError>
+    requires bounded { All IsBoundedSummary summaries.now }
+    requires small { All IsSmallRow (map (λ row. row.now) rows.now) }
+    requires short { length (map (λ row. row.now) rows.now) < 2 ^ 63 }
+    ensures { IfOk result (λ made. made ≡ map (summary_value (map (λ row. row.now) rows.now)) summaries.now) }
+{
+    let mut made = Vec::with_capacity(alloc, summaries.len())?;
+    for summary in summaries {
+        made.push(value_of_summary(alloc, summary, rows)?)?;
+    }
+    Ok(ResultRow::new(made))
+}
+
+/// What an expression gives of some rows together.
+fn value_of_summary(
+    alloc: Global,
+    summary: &Summary,
+    rows: &[&Row],
+) -> Result<ResultValue, AllocError>
+    requires bounded { IsBoundedSummary summary.now }
+    requires small { All IsSmallRow (map (λ row. row.now) rows.now) }
+    requires short { length (map (λ row. row.now) rows.now) < 2 ^ 63 }
+    ensures { IfOk result (λ made.
+        result_value made ≡ summary_value (map (λ row. row.now) rows.now) summary.now) }
+{
+    let no_columns = Row::new(Vec::new(alloc))?;
+    let slots = set_functions(alloc, summary.aggregates.as_slice(), rows)?;
+    ResultValue::of(evaluate(&summary.value, &no_columns, &slots))
+}
+
+/// What these set functions give of some rows.
+fn set_functions(
+    alloc: Global,
+    aggregates: &[Aggregate],
+    rows: &[&Row],
+) -> Result<Slots, AllocError>
+    requires small { All IsSmallRow (map (λ row. row.now) rows.now) }
+    requires short { length (map (λ row. row.now) rows.now) < 2 ^ 63 }
+    ensures values { IfOk result (λ slots. values_of slots
+        ≡ map (λ a. aggregate_of a (map (λ row. row.now) rows.now)) aggregates.now) }
+    ensures kinds { IfOk result (λ slots. kinds_of slots ≡ map kind_of_aggregate aggregates.now) }
+{
+    let mut slots = Slots::new(alloc);
+    for aggregate in aggregates {
+        slots.push(set_function(alloc, *aggregate, rows)?)?;
+    }
+    Ok(slots)
+}
+
+/// What a set function gives of some rows.
+fn set_function(alloc: Global, aggregate: Aggregate, rows: &[&Row]) -> Result<SlotValue, AllocError>
+    requires small { All IsSmallRow (map (λ row. row.now) rows.now) }
+    requires short { length (map (λ row. row.now) rows.now) < 2 ^ 63 }
+    ensures value { IfOk result (λ made. value_of made ≡ aggregate_of aggregate (map (λ row. row.now) rows.now)) }
+    ensures kind { IfOk result (λ made. kind_of made ≡ kind_of_aggregate aggregate) }
+    ensures within { IfOk result (λ made. IsWithinKind made) }
+{
+    let mut total = Total::new(alloc);
+    for row in rows {
+        let value = value_for(row, aggregate)?;
+        total = total.with(aggregate, &value)?;
+    }
+    total.answer(aggregate)
+}
+
+/// The value of a row that a set function looks at; COUNT(*) looks at none.
+fn value_for(row: &Row, aggregate: Aggregate) -> Result<Value, AllocError>
+    ensures { IfOk result (λ value. value ≡ value_for aggregate row.now) }
+{
+    match aggregate.column() {
+        Some(column) => value_at(row, column),
+        None => Ok(Value::Null),
+    }
+}
