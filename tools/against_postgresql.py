@@ -356,23 +356,68 @@ class Maker:
         return Statement(own(tree) + name, theirs(tree) + name.replace(' Y', ' AS Y'))
 
     def select(self, table: str) -> Statement:
-        """All columns, expressions of each row, or of all rows together. The rows come in the order of their keys."""
+        """All columns, expressions of each row, of all rows together, or of groups. The rows come in the order of their
+        keys, groups in that of their columns."""
         key = self.key(table).name
         mine, yours = self.where(table)
         roll = self.rng.random()
-        if roll < 0.4:
+        if roll < 0.3:
             return Statement(f'SELECT * FROM {table}{mine}', f'SELECT * FROM "{table}"{yours} ORDER BY "{key}"')
-        count = range(self.pick([1, 2, 3]))
+        if roll > 0.6 and self.chance(0.6):
+            mine, yours = Statement('', '')
         own_name = self.pick(['', ' R', ' AS R'])
-        if roll < 0.7:
-            row = 'R' if own_name and self.chance(0.5) else ''
-            listed = [self.derived(self.expression(table, self.pick(['INTEGER', 'TEXT']), row)) for _ in count]
-            order = f' ORDER BY "{key}"'
+        row = 'R' if own_name and self.chance(0.5) else ''
+        if roll < 0.6:
+            listed = [self.expression(table, self.pick(['INTEGER', 'TEXT']), row) for _ in self.several()]
+            behind = Statement('', f' ORDER BY "{key}"')
+        elif roll < 0.7:
+            listed = [self.set_function(table, 'INTEGER'), *(self.summary(table) for _ in self.several())]
+            behind = Statement('', '')
         else:
-            functions = [self.set_function(table, 'INTEGER'), *(self.summary(table) for _ in count)]
-            listed, order = [self.derived(function) for function in functions], ''
-        return Statement(f'SELECT {", ".join(column.own for column in listed)} FROM {table}{own_name}{mine}',
-                         f'SELECT {", ".join(column.theirs for column in listed)} FROM "{table}"{yours}{order}')
+            listed, behind = self.groups(table, row)
+        columns = [self.derived(tree) for tree in listed]
+        items, others = ', '.join(column.own for column in columns), ', '.join(column.theirs for column in columns)
+        return Statement(f'SELECT {items} FROM {table}{own_name}{mine}{behind.own}',
+                         f'SELECT {others} FROM "{table}"{yours}{behind.theirs}')
+
+    def several(self) -> range:
+        return range(self.pick([1, 2, 3]))
+
+    def groups(self, table: str, row: str) -> tuple[list[Tree], Statement]:
+        """What is listed of groups by two columns at most, and GROUP BY and HAVING; on PostgreSQL their order too."""
+        columns = self.tables[table]
+        by = self.rng.sample(columns, min(len(columns), self.pick([0, 1, 1, 2])))
+        named = [Tree('column', (row, column.name)) for column in by]
+        numbers = [tree for tree, column in zip(named, by) if column.kind == 'INTEGER']
+        texts = [tree for tree, column in zip(named, by) if column.kind == 'TEXT']
+        listed = [self.pick([self.summary(table), *named, *(self.of_group(table, tree, numbers) for tree in numbers)])
+                  for _ in self.several()]
+        mine = yours = ''
+        if by:
+            mine, yours = f' GROUP BY {", ".join(map(own, named))}', f' GROUP BY {", ".join(map(theirs, named))}'
+        if not by or self.chance(0.4):
+            having = self.having(table, numbers, texts)
+            mine, yours = f'{mine} HAVING {own(having)}', f'{yours} HAVING {theirs(having)}'
+        if by:
+            yours += f' ORDER BY {", ".join(f"{theirs(tree)} NULLS FIRST" for tree in named)}'
+        return listed, Statement(mine, yours)
+
+    def of_group(self, table: str, column: Tree, columns: Sequence[Tree]) -> Tree:
+        """An expression over columns of GROUP BY, and perhaps over a set function."""
+        return self.pick([self.expression(None, 'INTEGER', '', columns),
+                          signed('sum', self.pick('+-'), column, self.set_function(table, 'INTEGER'))])
+
+    def having(self, table: str, columns: Sequence[Tree], texts: Sequence[Tree]) -> Tree:
+        """A condition over groups with these columns."""
+        def e() -> Tree:
+            return self.pick([self.set_function(table, 'INTEGER'), self.constant('INTEGER'), *columns])
+
+        tests = [self.pick([signed('compare', self.pick(COMPARES), self.set_function(table, 'INTEGER'), e()),
+                            tested('null test', self.set_function(table, 'INTEGER'), self.pick(NOT)),
+                            spanned('between', e(), self.pick(NOT), e(), e()),
+                            *(signed('compare', self.pick(COMPARES), tree, self.constant('TEXT')) for tree in texts)])
+                 for _ in range(2)]
+        return self.pick([tests[0], tests[0], joined('not', tests[0]), joined('and', *tests), joined('or', *tests)])
 
     def update(self, table: str) -> Statement:
         columns = [column for column in self.tables[table] if not column.is_key or self.chance(0.03)]

@@ -209,7 +209,8 @@ TEXTS = {
         "SELECT ID AS N, BAL - (SELECT MIN(A.BAL) FROM ACCT A) FROM ACCT",
         "SELECT ID FROM ACCT WHERE BAL = (SELECT MIN(BAL) FROM ACCT)"),
     "select-a-function-in-where": script(
-        "SELECT COUNT(*) N FROM ACCT A WHERE A.BAL > 0 AND A.BAL = MAX(A.BAL)"),
+        "SELECT COUNT(*) N FROM ACCT A WHERE A.BAL > 0 AND A.BAL = MAX(A.BAL)",
+        "SELECT OWNER FROM ACCT WHERE SUM(BAL) > 0 GROUP BY OWNER"),
     "select-types": script(
         "SELECT ID, 1 - OWNER AS LESS FROM ACCT WHERE OWNER = 1",
         "SELECT COUNT(*) AS N, -SUM(OWNER) FROM ACCT",
@@ -218,8 +219,38 @@ TEXTS = {
         "SELECT BAL * BAL AS SQUARE, BAL * BAL * BAL CUBE FROM ACCT",
         "SELECT COUNT(*) * SUM(BAL) FROM ACCT",
         "SELECT BAL AS B FROM ACCT WHERE BAL * BAL * BAL > 0"),
-    "select-groups": script("SELECT OWNER, SUM(BAL) FROM ACCT GROUP BY OWNER"),
-    "select-having": script("SELECT SUM(BAL) FROM ACCT HAVING SUM(BAL) > 0"),
+    "select-names-of-groups": script(
+        "SELECT COUNT(*) FROM ACCT GROUP BY OWNR",
+        "SELECT OWNER AS O, COUNT(*) FROM ACCT A WHERE A.BAL > 0 GROUP BY A.OWNER, ID, ACCT.BAL HAVING BAAL > 1",
+        "SELECT BAL B FROM ACCT AS A WHERE A.BAL > 0 GROUP BY A.OWNER, BAL HAVING COUNT(*) > 1 AND SUM(A.BALL) > 0",
+        "SELECT OWNER AS WHOSE, COUNT(*) AS N FROM ACCT GROUP BY OWNER HAVING N > 1"),
+    "select-a-column-outside-groups": script(
+        "SELECT OWNER, BAL FROM ACCT GROUP BY OWNER",
+        "SELECT A.OWNER, SUM(BAL) - A.ID AS LESS FROM ACCT A GROUP BY BAL, A.OWNER",
+        "SELECT ID FROM ACCT HAVING COUNT(*) > 0"),
+    "select-a-column-in-having": script(
+        "SELECT OWNER, SUM(BAL) FROM ACCT GROUP BY OWNER, BAL HAVING SUM(BAL) > 0 AND OWNER = 'KIM' AND ACCT.ID = 1",
+        "SELECT SUM(BAL) FROM ACCT WHERE BAL > 0 HAVING OWNER IS NULL"),
+    "select-all-of-groups": script(
+        "SELECT * FROM ACCT GROUP BY ID, OWNER HAVING COUNT(*) > 1",
+        "SELECT * FROM ACCT WHERE BAL * 2 > 0 HAVING COUNT(*) > 1"),
+    "select-a-query-in-having": script(
+        "SELECT OWNER FROM ACCT GROUP BY OWNER HAVING SUM(BAL) > (SELECT MAX(A.BAL) FROM ACCT A)"),
+    "select-types-of-groups": script(
+        "SELECT OWNER FROM ACCT GROUP BY OWNER, ACCT.ID HAVING COUNT(*) > 1 OR OWNER = 7",
+        "SELECT COUNT(*) FROM ACCT HAVING SUM(OWNER) > 1",
+        "SELECT OWNER + 1 FROM ACCT GROUP BY OWNER"),
+    "select-too-wide-groups": script(
+        "SELECT BAL FROM ACCT GROUP BY BAL, OWNER HAVING COUNT(*) * SUM(BAL) > 0",
+        "SELECT COUNT(*) FROM ACCT GROUP BY BAL HAVING BAL * BAL * BAL > 0"),
+    "select-having-before-groups": script("SELECT OWNER FROM ACCT HAVING COUNT(*) > 1 GROUP BY OWNER"),
+    "select-where-behind-groups": script("SELECT OWNER FROM ACCT GROUP BY OWNER WHERE BAL > 0"),
+    "select-groups-by-nothing": script("SELECT OWNER FROM ACCT GROUP BY HAVING COUNT(*) > 1"),
+    "select-groups-by-a-number": script("SELECT OWNER FROM ACCT GROUP BY 1"),
+    "select-groups-by-an-expression": script("SELECT BAL * 2 FROM ACCT GROUP BY OWNER, BAL * 2"),
+    "select-groups-with-a-comma-too-many": script("SELECT OWNER FROM ACCT GROUP BY OWNER, ID, HAVING COUNT(*) > 1"),
+    "select-groups-in-order": script("SELECT OWNER FROM ACCT GROUP BY OWNER ORDER BY OWNER"),
+    "select-groups-by-an-average": script("SELECT OWNER FROM ACCT GROUP BY OWNER HAVING AVG(BAL) > 0"),
     "select-order": script("SELECT OWNER FROM ACCT ORDER BY BAL"),
     "select-limit": script("SELECT OWNER FROM ACCT A LIMIT 5"),
     "select-distinct-owners": script("SELECT DISTINCT OWNER FROM ACCT"),

@@ -53,7 +53,7 @@ defer = 'DEFERRABLE' | 'NOT' 'DEFERRABLE'
 event = 'BEGIN' | 'BEGIN' 'READ' 'ONLY' | 'COMMIT' work | 'ROLLBACK' work | stmt
 work = | 'WORK'
 stmt = insert | 'UPDATE' name 'SET' set sets where | 'DELETE' 'FROM' name where
-stmt = 'SELECT' selected 'FROM' name correlation_name where
+stmt = 'SELECT' selected 'FROM' name correlation_name where groups having
 stmt = 'SET' 'CONSTRAINTS' 'ALL' mode | 'SET' 'CONSTRAINTS' names mode | 'VERDICT' name
 selected = '*' | items
 items = item | item ',' items
@@ -91,6 +91,8 @@ query = 'SELECT' listed 'FROM' name correlation_name where group having
 listed = '*' | expr
 correlation_name = | name | 'AS' name
 group = | 'GROUP' 'BY' colref
+groups = | 'GROUP' 'BY' colrefs
+colrefs = colref | colref ',' colrefs
 having = | 'HAVING' cond
 """
 

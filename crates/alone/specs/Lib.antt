@@ -1,6 +1,7 @@
 pub mod States
 pub mod Reads
 pub mod Checks
+pub mod Groups
 pub mod Statements
 pub mod Results
 pub mod Resolve

@@ -1,5 +1,5 @@
 -- Statements with their names found, and what each does alone to the rows of a state.
-use Rattle.std.specs.Prelude.{ℕ, Bool, true, ◌==◌, List, [], ◌∷◌, length, map, Option, Some, None, Result, Ok, Err, slice_get, slice_index_or, slice_set, if◌then◌else◌}
+use Rattle.std.specs.Prelude.{ℕ, Bool, true, ◌==◌, List, [], ◌∷◌, filter, length, map, Option, Some, None, Result, Ok, Err, slice_get, slice_index_or, slice_set, if◌then◌else◌}
 use Rattle.std.specs.List.{list_any}
 use Rattle.std.specs.Option.{option_or}
 use Rattle.value.specs.declared.values.Value.{Value}
@@ -14,17 +14,19 @@ use Rattle.table.specs.Aggregates.{aggregate}
 use Rattle.table.specs.Faults.{fault_in, is_typed, row_refusal}
 use Rattle.table.specs.declared.exprs.Expr.{Expr}
 use Rattle.table.specs.declared.conds.Cond.{Cond}
-use Rattle.table.specs.Eval.{answer}
+use Rattle.table.specs.Eval.{answer, keeps}
 use Rattle.assertion.specs.Meaning.{State, rows_of, filtered_rows}
+use Rattle.form_check.specs.declared.summaries.GroupCondition.{GroupCondition}
 use Rattle.form_check.specs.declared.summaries.Summary.{Summary}
 use Rattle.assertcheck.specs.declared.inserts.NewRows.{NewRows}
 use Rattle.assertcheck.specs.declared.selects.Listing.{Listing}
-use Rattle.assertcheck.specs.declared.selects.Listing.TheVariants.{EachRow, AllRows}
+use Rattle.assertcheck.specs.declared.selects.Listing.TheVariants.{EachRow, EachGroup}
 use Rattle.assertcheck.specs.declared.updates.Setting.{Setting}
 use Rattle.alone.specs.declared.answers.Reply.{Reply}
 use Rattle.alone.specs.declared.answers.Reply.TheVariants.{Inserted, Updated, Deleted}
 use Rattle.value.specs.Results.{and_then, unless}
 use Rattle.siread.specs.declared.keys.Place.{Place}
+use Rattle.alone.specs.Groups.{groups_of}
 use Rattle.alone.specs.States.{row_in}
 use Rattle.assertion.specs.Changes.{state_after}
 
@@ -128,14 +130,26 @@ update_effect columns table key sets rows =
 abbrev pub sets_key : ℕ → List Setting → Bool
 sets_key key sets = list_any (λ setting. setting.column == key) sets
 
--- what an expression over set functions gives of some rows together: the value of each stands in its slot (6.5)
-abbrev pub summary_value : List RowValues → Summary → Value
-summary_value rows summary = answer [] (map (λ a. aggregate a rows) summary.aggregates) summary.value
+-- the first of some rows; those of a group are alike in the columns of GROUP BY
+abbrev pub first_row : List RowValues → RowValues
+first_row [] = []
+first_row (row ∷ rows) = row
 
--- what a SELECT lists of the rows that its condition keeps: values of each row, or one row of all of them (7.9)
+-- what an expression gives of a group of rows: the value of each set function of them stands in its slot (6.5)
+abbrev pub summary_value : List RowValues → Summary → Value
+summary_value rows summary = answer (first_row rows) (map (λ a. aggregate a rows) summary.aggregates) summary.value
+
+-- whether HAVING, if it is written, is true of a group of rows (7.8)
+abbrev pub is_kept : Option GroupCondition → List RowValues → Bool
+is_kept None rows = true
+is_kept (Some having) rows = keeps (first_row rows) (map (λ a. aggregate a rows) having.aggregates) having.condition
+
+-- what a SELECT lists of the rows that its condition keeps: values of each row, or of each group that HAVING keeps (7.9)
 abbrev pub listed_rows : Listing → List RowValues → List RowValues
 listed_rows (EachRow values) rows = map (λ row. map (answer row []) values) rows
-listed_rows (AllRows summaries) rows = map (summary_value rows) summaries ∷ []
+listed_rows (EachGroup grouping) rows =
+    map (λ group. map (summary_value group) grouping.values) (
+    filter (is_kept grouping.having) (groups_of grouping.columns rows))
 
 -- the rows of a table that a condition keeps, in key order
 abbrev pub found_rows : State → ℕ → Cond → List RowValues

@@ -22,7 +22,8 @@
 //! assertions. These definitions evaluate whole lists of rows from scratch, and know nothing of what a view keeps:
 //!
 //! - `specs/States`: what stands at a place, and the net change between two states;
-//! - `specs/Statements`: what each statement does to the rows;
+//! - `specs/Groups`: rows in order and in groups;
+//! - `specs/Statements`: what each statement does to the rows, and what a SELECT lists of them;
 //! - `specs/Reads`, `specs/Checks`: under which keys a WHERE and a check of assertions read;
 //! - `specs/Alone`: a step, a run of statements, a transaction, and what it reads;
 //! - `specs/Resolve`: statements as they were written, with their names found, and which of them a read-only

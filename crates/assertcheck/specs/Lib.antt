@@ -5,4 +5,5 @@ pub mod Assertions
 pub mod Conditions
 pub mod Statements
 pub mod Updates
+pub mod Groupings
 pub mod Selects

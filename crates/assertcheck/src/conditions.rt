@@ -55,7 +55,7 @@ pub fn filter_condition(
     }
 }
 
-/// Looks up the names in the condition of WHERE.
+/// Looks up the names in the condition of WHERE, or of HAVING.
 pub fn look_up_where(
     alloc: Global,
     catalog: &Catalog,

@@ -6,12 +6,14 @@
 //! 1. of CREATE ASSERTION, attributes that are at odds: INITIALLY DEFERRED is never NOT DEFERRABLE (SQL-92, constraint
 //!    attributes);
 //! 2. *names*: of a statement its table, then its assigned columns from the left, then the names in what it lists or
-//!    assigns, then those of its condition (`form_check`). No UPDATE assigns a column twice, or the key;
+//!    assigns, then those of its WHERE, its GROUP BY and its HAVING (`form_check`). No UPDATE assigns a column twice, or
+//!    the key;
 //! 3. *shape*: an assertion is of one of three forms, and what a statement assigns and its condition hold neither a set
-//!    function nor a query. What a SELECT lists is over each row, likewise; or, where a set function stands among it,
-//!    over all rows together, and then no column stands outside a set function (ISO/IEC 9075:1992, 7.9; `form_check`).
+//!    function nor a query. What a SELECT lists is over each row, likewise; or, with GROUP BY or HAVING or where a set
+//!    function stands among it, over groups of rows, and then no column but those of GROUP BY stands outside a set
+//!    function (ISO/IEC 9075:1992, 7.9; `form_check`).
 //!    What is over each row of its table alone has no unknown name, so the names of a statement are looked up by
-//!    themselves only to say which fault is its first, and where there are set functions;
+//!    themselves only to say which fault is its first, and where there are groups;
 //! 4. *types*: what is compared is of one type, arithmetic is on numbers, and a constant, or what is assigned, is of
 //!    its column's type;
 //! 5. *width*: each expression has a bound, so that no evaluation overflows (`table`).
@@ -21,7 +23,7 @@
 //!
 //! What the layer above may rest on: each answers exactly what its definition in `specs/` says, or that memory ran out:
 //! an assertion only for a condition of the class, typed and bounded, and the stated first fault for every other. The
-//! definitions are in `specs/`: `Assertions`, `Conditions`, `Statements`, `Updates` and `Selects`.
+//! definitions are in `specs/`: `Assertions`, `Conditions`, `Statements`, `Updates`, `Groupings` and `Selects`.
 //!
 //! # Types and widths
 //!
@@ -63,6 +65,7 @@ mod columns;
 mod conditions;
 mod data_types;
 mod deletes;
+mod groupings;
 mod inserts;
 mod listings;
 mod selects;
@@ -74,6 +77,7 @@ pub use assertions::check;
 pub use bounded_forms::form_is_bounded;
 pub use data_types::{DataType, aggregate_type, are_comparable, column_type};
 pub use deletes::{Delete, check_delete};
+pub use groupings::Grouping;
 pub use inserts::{NewRows, check_insert};
 pub use selects::{Listing, Select, check_select};
 pub use typed_forms::form_is_typed;

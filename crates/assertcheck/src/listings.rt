@@ -6,15 +6,12 @@ ghost use Rattle.table.specs.declared.exprs.Expr.TheVariants as expr_of;
 ghost use Rattle.form_check.specs.ShownScopes.{lent_scope};
 ghost use Rattle.assertcheck.specs.Statements.{places_from};
 ghost use Rattle.assertcheck.specs.declared.selects.Listing.TheVariants as listings;
-ghost use Rattle.assertcheck.specs.Selects.{IsBoundedListing, all_rows_of, columns_fault, each_row_of, derived_listing, have_set_functions, is_bounded_listing, is_bounded_summary, is_typed_listing, is_typed_summary, listed_fault, listing_of};
+ghost use Rattle.assertcheck.specs.Selects.{IsBoundedListing, columns_fault, derived_of, each_row_of, is_bounded_listing, is_typed_listing, listed_fault, listing_of};
 
-use crate::bounded_forms::aggregate_kinds;
+use crate::groupings::{grouping_of, is_bounded_grouping, is_grouped, is_typed_grouping};
 use crate::selects::Listing;
-use crate::typed_forms::aggregate_types;
 use crate::typed_trees::expression_type;
-use form_check::{
-    Scope, Summary, has_set_function, look_up_expression, row_expression, summary_expression,
-};
+use form_check::{Scope, look_up_expression, row_expression};
 use sqlite_items::Items;
 use std::alloc::{AllocError, Global};
 use syntax::DerivedColumn;
@@ -55,18 +52,31 @@ fn look_up_each(
 }
 
 /// What a SELECT lists, its types and widths not judged.
-pub fn listing(
+pub fn listing(alloc: Global, scope: Scope, select: &syntax::Select) -> Result<Listing, Refusal>
+    ensures made { IfOk result (λ made. listing_of (lent_scope scope.entry) select.now ≡ Ok made) }
+    ensures refused { IfErr result (λ refusal.
+        refusal ≢ NoMemory → listing_of (lent_scope scope.entry) select.now ≡ Err refusal) }
+{
+    if is_grouped(select) {
+        Ok(Listing::EachGroup(grouping_of(alloc, scope, select)?))
+    } else {
+        Ok(Listing::EachRow(each_row(alloc, scope, &select.columns)?))
+    }
+}
+
+/// What is listed of each row.
+fn each_row(
     alloc: Global,
     scope: Scope,
     columns: &Option<Items<DerivedColumn>>,
-) -> Result<Listing, Refusal>
-    ensures made { IfOk result (λ made. listing_of (lent_scope scope.entry) columns.now ≡ Ok made) }
+) -> Result<Items<Expr>, Refusal>
+    ensures made { IfOk result (λ made. each_row_of (lent_scope scope.entry) columns.now ≡ Ok made) }
     ensures refused { IfErr result (λ refusal.
-        refusal ≢ NoMemory → listing_of (lent_scope scope.entry) columns.now ≡ Err refusal) }
+        refusal ≢ NoMemory → each_row_of (lent_scope scope.entry) columns.now ≡ Err refusal) }
 {
     match columns {
-        None => Ok(Listing::EachRow(own_columns(alloc, scope.schema.columns())?)),
-        Some(columns) => derived_listing(alloc, scope, columns.as_slice()),
+        Some(columns) => derived_columns(alloc, scope, columns.as_slice()),
+        None => Ok(own_columns(alloc, scope.schema.columns())?),
     }
 }
 
@@ -82,58 +92,20 @@ fn own_columns(alloc: Global, columns: &[Column]) -> Result<Items<Expr>, AllocEr
     Ok(Items::from_vec(made))
 }
 
-/// Derived columns: over all rows together where a set function stands in one, and else over each row.
-fn derived_listing(
+/// Derived columns over each row.
+#[tactic(auto, using(value::proofs::Results::behind_next, value::proofs::Results::behind_none))]
+fn derived_columns(
     alloc: Global,
     scope: Scope,
     columns: &[DerivedColumn],
-) -> Result<Listing, Refusal>
-    ensures made { IfOk result (λ made.
-        derived_listing (lent_scope scope.entry) columns.now (have_set_functions columns.now) ≡ Ok made) }
-    ensures refused { IfErr result (λ refusal. refusal ≢ NoMemory
-        → derived_listing (lent_scope scope.entry) columns.now (have_set_functions columns.now) ≡ Err refusal) }
-{
-    if have_set_functions(columns) {
-        Ok(Listing::AllRows(all_rows(alloc, scope, columns)?))
-    } else {
-        Ok(Listing::EachRow(each_row(alloc, scope, columns)?))
-    }
-}
-
-fn have_set_functions(columns: &[DerivedColumn]) -> bool
-    ensures { result ≡ have_set_functions columns.now }
-{
-    columns.iter().any(|column| has_set_function(&column.value))
-}
-
-/// Derived columns over each row.
-#[tactic(auto, using(value::proofs::Results::behind_next, value::proofs::Results::behind_none))]
-fn each_row(alloc: Global, scope: Scope, columns: &[DerivedColumn]) -> Result<Items<Expr>, Refusal>
-    ensures made { IfOk result (λ made. each_row_of (lent_scope scope.entry) columns.now ≡ Ok made) }
+) -> Result<Items<Expr>, Refusal>
+    ensures made { IfOk result (λ made. derived_of (lent_scope scope.entry) columns.now ≡ Ok made) }
     ensures refused { IfErr result (λ refusal.
-        refusal ≢ NoMemory → each_row_of (lent_scope scope.entry) columns.now ≡ Err refusal) }
+        refusal ≢ NoMemory → derived_of (lent_scope scope.entry) columns.now ≡ Err refusal) }
 {
     let mut made = Vec::new(alloc);
     for column in columns {
         made.push(row_expression(alloc, scope, &column.value)?)?;
-    }
-    Ok(Items::from_vec(made))
-}
-
-/// Derived columns over set functions of all rows.
-#[tactic(auto, using(value::proofs::Results::behind_next, value::proofs::Results::behind_none))]
-fn all_rows(
-    alloc: Global,
-    scope: Scope,
-    columns: &[DerivedColumn],
-) -> Result<Items<Summary>, Refusal>
-    ensures made { IfOk result (λ made. all_rows_of (lent_scope scope.entry) columns.now ≡ Ok made) }
-    ensures refused { IfErr result (λ refusal.
-        refusal ≢ NoMemory → all_rows_of (lent_scope scope.entry) columns.now ≡ Err refusal) }
-{
-    let mut made = Vec::new(alloc);
-    for column in columns {
-        made.push(summary_expression(alloc, scope, &column.value)?)?;
     }
     Ok(Items::from_vec(made))
 }
@@ -148,7 +120,7 @@ pub fn is_typed_listing(
 {
     match listing {
         Listing::EachRow(values) => Ok(are_typed(columns, values.as_slice())),
-        Listing::AllRows(summaries) => are_typed_summaries(alloc, columns, summaries.as_slice()),
+        Listing::EachGroup(grouping) => is_typed_grouping(alloc, columns, grouping),
     }
 }
 
@@ -160,34 +132,6 @@ fn are_typed(columns: &[Column], values: &[Expr]) -> bool
         .all(|value| expression_type(value, columns, &[]).is_some())
 }
 
-fn are_typed_summaries(
-    alloc: Global,
-    columns: &[Column],
-    summaries: &[Summary],
-) -> Result<bool, AllocError>
-    ensures { IfOk result (λ typed. typed ≡ is_typed_listing columns.now (listings.AllRows summaries.now)) }
-{
-    for summary in summaries {
-        if !is_typed_summary(alloc, columns, summary)? {
-            return Ok(false);
-        }
-    }
-    Ok(true)
-}
-
-fn is_typed_summary(
-    alloc: Global,
-    columns: &[Column],
-    summary: &Summary,
-) -> Result<bool, AllocError>
-    ensures { IfOk result (λ typed. typed ≡ is_typed_summary columns.now summary.now) }
-{
-    match aggregate_types(alloc, columns, summary.aggregates.as_slice())? {
-        Some(slots) => Ok(expression_type(&summary.value, &[], slots.as_slice()).is_some()),
-        None => Ok(false),
-    }
-}
-
 /// Whether each listed expression has a bound.
 pub fn is_bounded_listing(alloc: Global, listing: &Listing) -> Result<bool, AllocError>
     ensures value { IfOk result (λ bounded. bounded ≡ is_bounded_listing listing.now) }
@@ -195,7 +139,7 @@ pub fn is_bounded_listing(alloc: Global, listing: &Listing) -> Result<bool, Allo
 {
     match listing {
         Listing::EachRow(values) => Ok(are_bounded(values.as_slice())),
-        Listing::AllRows(summaries) => are_bounded_summaries(alloc, summaries.as_slice()),
+        Listing::EachGroup(grouping) => is_bounded_grouping(alloc, grouping),
     }
 }
 
@@ -203,22 +147,4 @@ fn are_bounded(values: &[Expr]) -> bool
     ensures { result ≡ is_bounded_listing (listings.EachRow values.now) }
 {
     values.iter().all(|value| bound(value, &[]).is_ok())
-}
-
-fn are_bounded_summaries(alloc: Global, summaries: &[Summary]) -> Result<bool, AllocError>
-    ensures { IfOk result (λ bounded. bounded ≡ is_bounded_listing (listings.AllRows summaries.now)) }
-{
-    for summary in summaries {
-        if !is_bounded_summary(alloc, summary)? {
-            return Ok(false);
-        }
-    }
-    Ok(true)
-}
-
-fn is_bounded_summary(alloc: Global, summary: &Summary) -> Result<bool, AllocError>
-    ensures { IfOk result (λ bounded. bounded ≡ is_bounded_summary summary.now) }
-{
-    let slots = aggregate_kinds(alloc, summary.aggregates.as_slice())?;
-    Ok(bound(&summary.value, &slots).is_ok())
 }

@@ -8,9 +8,10 @@ ghost use Rattle.form_check.specs.ShownSources.{shown_source};
 ghost use Rattle.assertcheck.specs.Selects.{IsBoundedListing, lists_each_row, select_of, select_over, selected_fault, selected_source, sound_select};
 
 use crate::conditions::{look_up_where, row_filter};
+use crate::groupings::{Grouping, look_up_grouping};
 use crate::listings::{is_bounded_listing, is_typed_listing, listing, look_up_columns};
 use crate::typed_trees::is_well_typed;
-use form_check::{Scope, Source, Summary};
+use form_check::{Scope, Source};
 use sqlite_items::Items;
 use std::alloc::Global;
 use table::{Catalog, Column, Cond, Expr, is_bounded};
@@ -21,8 +22,8 @@ use value::Refusal;
 pub enum Listing {
     /// Of each row what these expressions give.
     EachRow(Items<Expr>),
-    /// One row, whatever the rows are: what these expressions over set functions of all of them give.
-    AllRows(Items<Summary>),
+    /// Of each group of rows what is over it.
+    EachGroup(Grouping),
 }
 
 /// A SELECT with its names found.
@@ -34,12 +35,12 @@ pub struct Select {
     pub filter: Cond,
 }
 
-/// `SELECT columns FROM table WHERE condition`.
+/// `SELECT columns FROM table WHERE condition GROUP BY columns HAVING condition`.
 ///
 /// # Errors
 ///
-/// The first fault: [`Refusal::UnknownName`] of the table, then of the names in the listed columns from the left, and
-/// then of the condition's names. After all names, of all columns and the condition, [`Refusal::OutsideClass`], then
+/// The first fault: [`Refusal::UnknownName`] of the table, then of the names in the listed columns, WHERE, GROUP BY and
+/// HAVING, from the left. After all names, of all that is written, [`Refusal::OutsideClass`], then
 /// [`Refusal::TypeMismatch`], and then [`Refusal::TooWide`]. Or [`Refusal::NoMemory`].
 pub fn check_select(
     alloc: Global,
@@ -90,7 +91,7 @@ fn lists_each_row(made: &Result<Select, Refusal>) -> bool
     }
 }
 
-/// Looks up the names in the listed columns from the left, and then those of the condition.
+/// Looks up the names in the listed columns, WHERE, GROUP BY and HAVING, from the left.
 fn known_names(
     alloc: Global,
     catalog: &Catalog,
@@ -102,10 +103,13 @@ fn known_names(
         refusal ≢ NoMemory → selected_fault catalog.now (lent_scope scope.entry) select.now ≡ Some refusal) }
 {
     look_up_columns(alloc, catalog, scope, &select.columns)?;
-    look_up_where(alloc, catalog, scope, &select.keeps)
+    look_up_where(alloc, catalog, scope, &select.keeps)?;
+    look_up_grouping(scope, &select.group_by)?;
+    look_up_where(alloc, catalog, scope, &select.having)
 }
 
-/// The SELECT of a table, if what it lists and its condition are over the table's rows alone, typed and bounded.
+/// The SELECT of a table, if what it lists and its conditions are of the table's rows and their groups alone, typed and
+/// bounded.
 fn select_over(alloc: Global, target: Source, select: &syntax::Select) -> Result<Select, Refusal>
     ensures made { IfOk result (λ made. select_over (shown_source target.entry) select.now ≡ Ok made) }
     ensures refused { IfErr result (λ refusal.
@@ -114,7 +118,7 @@ fn select_over(alloc: Global, target: Source, select: &syntax::Select) -> Result
     ensures bounded { IfOk result (λ made. IsBoundedListing made.listing) }
     ensures bounded_condition { IfOk result (λ made. IsTrue (is_bounded_of [] made.filter)) }
 {
-    let listing = listing(alloc, target.scope, &select.columns)?;
+    let listing = listing(alloc, target.scope, select)?;
     let filter = row_filter(alloc, target.scope, &select.keeps)?;
     let select = Select {
         table: target.table,
@@ -124,7 +128,7 @@ fn select_over(alloc: Global, target: Source, select: &syntax::Select) -> Result
     require_sound(alloc, target.scope.schema.columns(), select)
 }
 
-/// The SELECT, if what it lists and its condition are typed, and bounded.
+/// The SELECT, if what it lists and its conditions are typed, and bounded.
 fn require_sound(alloc: Global, columns: &[Column], select: Select) -> Result<Select, Refusal>
     ensures made { IfOk result (λ made. sound_select columns.now select ≡ Ok made) }
     ensures refused { IfErr result (λ refusal. refusal ≢ NoMemory → sound_select columns.now select ≡ Err refusal) }

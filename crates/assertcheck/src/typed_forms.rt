@@ -56,7 +56,7 @@ pub fn form_is_typed(alloc: Global, catalog: &Catalog, form: &Form) -> Result<bo
 }
 
 /// Whether a condition is typed over slots of these types, each of which has to be there.
-fn is_typed_over(cond: &Cond, columns: &[Column], slots: &Option<Items<DataType>>) -> bool
+pub fn is_typed_over(cond: &Cond, columns: &[Column], slots: &Option<Items<DataType>>) -> bool
     ensures { result ≡ is_typed_over_types columns.now slots.now cond.now }
 {
     match slots {

@@ -6,3 +6,7 @@ pub mod Fitting
 pub mod FilteredUnder
 pub mod Walks
 mod LentRows
+mod Sorting
+mod Runs
+mod KeyedRows
+mod GroupWalks

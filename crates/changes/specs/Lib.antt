@@ -3,3 +3,4 @@ pub mod Shown
 pub mod Filters
 pub mod Insertions
 pub mod Lookups
+pub mod Keyed

@@ -1,6 +1,6 @@
 //! What a SELECT lists.
 
-ghost use Rattle.std.specs.Prelude.{◌≡◌, ◌<◌, ◌^◌, [], All, IfOk, IsSome, IsTrue, length, map};
+ghost use Rattle.std.specs.Prelude.{◌≡◌, ◌<◌, ◌^◌, [], All, IfOk, IsSome, IsTrue, Some, length, map};
 ghost use Rattle.value.specs.Ordered.{IsAscending};
 ghost use Rattle.value.specs.ValueOrder.{value_cmp};
 ghost use Rattle.table.specs.Aggregates.{aggregate as aggregate_of};
@@ -11,24 +11,26 @@ ghost use Rattle.table.specs.Rows.{value_in};
 ghost use Rattle.table.specs.Slots.{IsWithinKind, kind_of, kinds_of, value_of, values_of};
 ghost use Rattle.assertion.specs.Meaning.{filtered_rows};
 ghost use Rattle.groups.specs.Answers.{value_for};
-ghost use Rattle.assertcheck.specs.Selects.{IsBoundedListing, IsBoundedSummary};
+ghost use Rattle.assertcheck.specs.Groupings.{IsBoundedGrouping, IsBoundedSummary, is_bounded_having};
+ghost use Rattle.assertcheck.specs.Selects.{IsBoundedListing};
 ghost use Rattle.alone.specs.Results.{value_of as result_value};
-ghost use Rattle.alone.specs.Statements.{listed_rows, summary_value};
+ghost use Rattle.alone.specs.Statements.{first_row, is_kept, listed_rows, summary_value};
 ghost use Rattle.assertcheck.specs.declared.selects.Listing.TheVariants as listings;
 
 use crate::filtered::filtered_rows;
 use crate::filters::TableFilter;
+use crate::groupings::groups_of;
 use alone::{ResultRow, ResultValue};
-use assertcheck::Listing;
-use form_check::Summary;
+use assertcheck::{Grouping, Listing};
+use form_check::{GroupCondition, Summary};
 use groups::Total;
 use mvrows::Rows;
 use std::alloc::{AllocError, Global};
-use table::{Aggregate, Expr, Row, SlotValue, Slots, evaluate, value_at};
+use table::{Aggregate, Expr, Row, SlotValue, Slots, evaluate, keeps, value_at};
 use value::Value;
 
-/// What a SELECT lists of the rows that its WHERE keeps: of each row, in key order, or of all together. `rows` are those
-/// that stand in the WHERE's table now.
+/// What a SELECT lists of the rows that its WHERE keeps: of each row, in key order, or of each group that its HAVING keeps,
+/// in the order of their values. `rows` are those that stand in the WHERE's table now.
 pub fn listed_rows(
     alloc: Global,
     rows: &Rows,
@@ -44,7 +46,7 @@ pub fn listed_rows(
 {
     match listing {
         Listing::EachRow(values) => each_row(alloc, rows, values.as_slice(), filter),
-        Listing::AllRows(summaries) => all_rows(alloc, rows, summaries.as_slice(), filter),
+        Listing::EachGroup(grouping) => each_group(alloc, rows, grouping, filter),
     }
 }
 
@@ -88,24 +90,28 @@ fn values_of_row(
     Ok(ResultRow::new(made))
 }
 
-/// The one row of what these expressions give of all rows together.
-fn all_rows(
+/// What is listed of each group that HAVING keeps.
+fn each_group(
     alloc: Global,
     rows: &Rows,
-    summaries: &[Summary],
+    grouping: &Grouping,
     filter: &TableFilter<'_>,
 ) -> Result<Vec<ResultRow>, AllocError>
-    requires bounded_summaries { All IsBoundedSummary summaries.now }
+    requires bounded_grouping { IsBoundedGrouping grouping.now }
     requires bounded { IsTrue (is_bounded [] filter.now.condition) }
     requires small { All IsSmallRow rows.now }
     requires ordered { IsAscending value_cmp (value_in filter.now.key) rows.now }
     ensures { IfOk result (λ made. made.items
-        ≡ listed_rows (listings.AllRows summaries.now) (filtered_rows filter.now.condition rows.now)) }
+        ≡ listed_rows (listings.EachGroup grouping.now) (filtered_rows filter.now.condition rows.now)) }
 {
     let kept = kept_rows(alloc, rows, filter)?;
-    let row = summary_row(alloc, summaries, &kept)?;
-    let mut made = Vec::with_capacity(alloc, 1)?;
-    made.push(row)?;
+    let groups = groups_of(alloc, grouping.columns.as_slice(), kept)?;
+    let mut made = Vec::new(alloc);
+    for group in groups.as_slice() {
+        if is_kept(alloc, &grouping.having, group)? {
+            made.push(summary_row(alloc, grouping.values.as_slice(), group)?)?;
+        }
+    }
     Ok(made)
 }
 
@@ -132,35 +138,76 @@ fn kept_rows<'a>(
     Ok(kept)
 }
 
-/// What each of these expressions gives of some rows together.
+/// Whether HAVING keeps a group of rows.
+fn is_kept(
+    alloc: Global,
+    having: &Option<GroupCondition>,
+    rows: &[&Row],
+) -> Result<bool, AllocError>
+    requires bounded { IsTrue (is_bounded_having having.now) }
+    requires small { All IsSmallRow (map (λ row. row.now) rows.now) }
+    requires short { length (map (λ row. row.now) rows.now) < 2 ^ 63 }
+    ensures { IfOk result (λ kept. kept ≡ is_kept having.now (map (λ row. row.now) rows.now)) }
+{
+    match having {
+        Some(having) => holds(alloc, having, rows),
+        None => Ok(true),
+    }
+}
+
+/// Whether a condition over groups is true of one.
+fn holds(alloc: Global, having: &GroupCondition, rows: &[&Row]) -> Result<bool, AllocError>
+    requires bounded { IsTrue (is_bounded_having (Some having.now)) }
+    requires small { All IsSmallRow (map (λ row. row.now) rows.now) }
+    requires short { length (map (λ row. row.now) rows.now) < 2 ^ 63 }
+    ensures { IfOk result (λ kept. kept ≡ is_kept (Some having.now) (map (λ row. row.now) rows.now)) }
+{
+    let first = first_row(alloc, rows)?;
+    let slots = set_functions(alloc, having.aggregates.as_slice(), rows)?;
+    Ok(keeps(&having.condition, &first, &slots))
+}
+
+/// What each of these expressions gives of a group of rows.
 fn summary_row(alloc: Global, summaries: &[Summary], rows: &[&Row]) -> Result<ResultRow, AllocError>
     requires bounded { All IsBoundedSummary summaries.now }
     requires small { All IsSmallRow (map (λ row. row.now) rows.now) }
     requires short { length (map (λ row. row.now) rows.now) < 2 ^ 63 }
     ensures { IfOk result (λ made. made ≡ map (summary_value (map (λ row. row.now) rows.now)) summaries.now) }
 {
+    let first = first_row(alloc, rows)?;
     let mut made = Vec::with_capacity(alloc, summaries.len())?;
     for summary in summaries {
-        made.push(value_of_summary(alloc, summary, rows)?)?;
+        made.push(value_of_summary(alloc, summary, rows, &first)?)?;
     }
     Ok(ResultRow::new(made))
 }
 
-/// What an expression gives of some rows together.
+/// What an expression gives of a group of rows, the first of which is at hand.
 fn value_of_summary(
     alloc: Global,
     summary: &Summary,
     rows: &[&Row],
+    first: &Row,
 ) -> Result<ResultValue, AllocError>
     requires bounded { IsBoundedSummary summary.now }
     requires small { All IsSmallRow (map (λ row. row.now) rows.now) }
     requires short { length (map (λ row. row.now) rows.now) < 2 ^ 63 }
+    requires first { first.now ≡ first_row (map (λ row. row.now) rows.now) }
     ensures { IfOk result (λ made.
         result_value made ≡ summary_value (map (λ row. row.now) rows.now) summary.now) }
 {
-    let no_columns = Row::new(Vec::new(alloc))?;
     let slots = set_functions(alloc, summary.aggregates.as_slice(), rows)?;
-    ResultValue::of(evaluate(&summary.value, &no_columns, &slots))
+    ResultValue::of(evaluate(&summary.value, first, &slots))
+}
+
+/// The first of some rows, and one without values where there is none: no column is looked at then.
+fn first_row(alloc: Global, rows: &[&Row]) -> Result<Row, AllocError>
+    ensures { IfOk result (λ row. row ≡ first_row (map (λ row. row.now) rows.now)) }
+{
+    match rows.first() {
+        Some(row) => row.copy(),
+        None => Row::new(Vec::new(alloc)),
+    }
 }
 
 /// What these set functions give of some rows.

@@ -3,7 +3,7 @@
 use crate::contexts::{Context, Viewpoint};
 use crate::names::diagnose_unknown;
 use crate::parts::{Part, parts_of_condition};
-use crate::rules::{push_form, wrong};
+use crate::rules::{Rule, push_form, wrong};
 use crate::shapes::{Outside, in_assertion, in_statement};
 use crate::types::{Mismatch, in_condition as mismatch_in_condition};
 use crate::widths::{BoundedPart, Wide, first_wide, push_bounds};
@@ -124,7 +124,15 @@ pub fn diagnose_shape(
     };
     diagnosis.place(20, context.range(outside.range));
     diagnosis.say(wrong(outside.rule))?;
-    push_form(&outside, &mut diagnosis.advice)?;
+    push_form(outside.rule, outside.root, &mut diagnosis.advice)?;
+    Ok(true)
+}
+
+/// Says that what stands at a place breaks a rule of the class. That is always found.
+pub fn diagnose_rule(at: At, rule: Rule, diagnosis: &mut Diagnosis) -> Result<bool, AllocError> {
+    diagnosis.place(20, at);
+    diagnosis.say(wrong(rule))?;
+    push_form(rule, None, &mut diagnosis.advice)?;
     Ok(true)
 }
 

@@ -65,6 +65,19 @@ pub fn parts_of_expression<'a>(
     Ok(walk.parts)
 }
 
+/// The names of columns whose leaves begin here.
+pub fn parts_of_columns<'a>(
+    alloc: Global,
+    columns: &'a [ColumnName],
+    at: usize,
+) -> Result<Vec<Part<'a>>, AllocError> {
+    let mut walk = Walk::new(alloc, at);
+    for column in columns {
+        walk.column(column)?;
+    }
+    Ok(walk.parts)
+}
+
 /// How far a tree was walked: the parts that were come to, the leaf that is next, and in how many queries it stands.
 #[derive(Drop)]
 struct Walk<'a> {

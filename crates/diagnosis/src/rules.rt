@@ -1,6 +1,5 @@
 //! What each rule of the class says, and how to write what was meant.
 
-use crate::shapes::Outside;
 use form_check::Scope;
 use std::alloc::AllocError;
 
@@ -41,8 +40,10 @@ pub enum Rule {
     QueryInStatement,
     /// A set function stands in the WHERE of a statement, or in what an UPDATE assigns.
     FunctionInStatement,
-    /// A column stands in the list of a SELECT outside of set functions, and a set function in it too.
-    ColumnBesideFunction,
+    /// A column stands in a SELECT of groups outside of set functions, and not in its GROUP BY.
+    ColumnOutsideGroup,
+    /// * lists a column that is not in GROUP BY.
+    StarOutsideGroup,
 }
 
 /// What is wrong with a part that breaks a rule of the class.
@@ -65,13 +66,14 @@ pub fn wrong(rule: Rule) -> &'static str {
         Rule::FunctionAlone => "a set function stands in a query",
         Rule::QueryInStatement => "no query may stand in a statement",
         Rule::FunctionInStatement => "this looks at one row, and a set function at many",
-        Rule::ColumnBesideFunction => "this column stands beside set functions, and in none",
+        Rule::ColumnOutsideGroup => "this column stands neither in GROUP BY nor in a set function",
+        Rule::StarOutsideGroup => "this lists columns that are not in GROUP BY",
     }
 }
 
-/// A line of how to write it in the class.
-pub fn push_form(outside: &Outside, advice: &mut String) -> Result<(), AllocError> {
-    match (outside.rule, outside.root) {
+/// A line of how to write it in the class; `root` is the table to whose key a link would lead.
+pub fn push_form(rule: Rule, root: Option<Scope>, advice: &mut String) -> Result<(), AllocError> {
+    match (rule, root) {
         (Rule::NoLink, Some(root)) => push_link(root, advice),
         (rule, _) => writeln!(advice, "{}", form_of(rule)),
     }
@@ -97,7 +99,8 @@ fn form_of(rule: Rule) -> &'static str {
         Rule::FunctionAlone => FUNCTION_ALONE,
         Rule::QueryInStatement => QUERY_IN_STATEMENT,
         Rule::FunctionInStatement => FUNCTION_IN_STATEMENT,
-        Rule::ColumnBesideFunction => COLUMN_BESIDE_FUNCTION,
+        Rule::ColumnOutsideGroup => COLUMN_OUTSIDE_GROUP,
+        Rule::StarOutsideGroup => STAR_OUTSIDE_GROUP,
     }
 }
 
@@ -154,12 +157,15 @@ const QUERY_IN_STATEMENT: &str =
      read one snapshot, and what it wrote itself.";
 
 const FUNCTION_IN_STATEMENT: &str =
-    "Set functions stand in the list of a SELECT: SELECT MAX(C) FROM \
-     T WHERE ..";
+    "Set functions stand in the list and in the HAVING of a SELECT: SELECT MAX(C) FROM T WHERE ..";
 
-const COLUMN_BESIDE_FUNCTION: &str =
-    "Of all rows together a column has many values: take MIN(..), MAX(..), SUM(..) or COUNT(..) of \
-     it, or list the columns by a SELECT of its own.";
+const COLUMN_OUTSIDE_GROUP: &str =
+    "Of a group of rows, which without GROUP BY is all of them, a column has many values: take \
+     MIN(..), MAX(..), SUM(..) or COUNT(..) of it, or write it into GROUP BY.";
+
+const STAR_OUTSIDE_GROUP: &str =
+    "Of a group of rows, which without GROUP BY is all of them, the other columns have many \
+     values. List the columns of GROUP BY and set functions.";
 
 /// What is said of a condition in which no part was found to break a rule.
 pub const FORMS: &str = "A rule is NOT EXISTS (SELECT * FROM T R WHERE ..), NOT EXISTS (SELECT K \

@@ -1,17 +1,21 @@
-//! What is wrong with a SELECT: with what it lists, with its table or with its WHERE.
+//! What is wrong with a SELECT: with its table, its list, its WHERE, its GROUP BY or its HAVING.
 
-use crate::conditions::{diagnose_expression, diagnose_types};
+use crate::conditions::{
+    Site, diagnose_condition, diagnose_expression, diagnose_rule, diagnose_shape, diagnose_types,
+};
 use crate::contexts::{Context, Viewpoint};
-use crate::leaves::{of_expression, of_name};
-use crate::parts::parts_of_expression;
+use crate::leaves::{of_column, of_condition, of_expression, of_name};
+use crate::parts::{parts_of_columns, parts_of_condition, parts_of_expression};
 use crate::rows::{Rows, diagnose_rows};
-use crate::shapes::in_listed;
+use crate::rules::Rule;
+use crate::shapes::{Groups, in_listed};
 use crate::types::of_type;
 use faults::Diagnosis;
 use form_check::{Scope, exposed_name, has_set_function};
 use std::alloc::{AllocError, Global};
 use std::slice;
-use syntax::{DerivedColumn, Expression, Select};
+use syntax::{ColumnName, DerivedColumn, Expression, Select};
+use token::Kind;
 use value::Refusal;
 
 /// The leaf behind the name of the session and SELECT.
@@ -23,6 +27,23 @@ fn derived_columns(select: &Select) -> &[DerivedColumn] {
         Some(columns) => columns.as_slice(),
         None => &[],
     }
+}
+
+/// The columns of GROUP BY; none where it is not written.
+fn grouping_columns(select: &Select) -> &[ColumnName] {
+    match &select.group_by {
+        Some(names) => names.as_slice(),
+        None => &[],
+    }
+}
+
+/// Whether the rows of a SELECT are taken in groups.
+fn is_grouped(select: &Select) -> bool {
+    select.group_by.is_some()
+        || select.having.is_some()
+        || derived_columns(select)
+            .iter()
+            .any(|column| has_set_function(&column.value))
 }
 
 /// An expression, and the name behind it.
@@ -52,39 +73,121 @@ fn behind(columns: &[DerivedColumn]) -> usize {
     at
 }
 
-/// Says what is wrong with a SELECT, if that is found: with its table, or else with its list, or else with its WHERE.
+/// Where the leaves behind a WHERE begin.
+fn behind_where(rows: Rows) -> usize {
+    match rows.keeps {
+        Some(keeps) => rows.keeps_at.saturating_add(of_condition(keeps.get())),
+        None => rows.keeps_at,
+    }
+}
+
+/// Where the leaves behind a GROUP BY begin.
+fn behind_grouping(names: &[ColumnName], at: usize) -> usize {
+    let mut at = at;
+    for name in names {
+        at = at.saturating_add(of_column(name));
+    }
+    at
+}
+
+/// A SELECT over a table that there is.
+#[derive(Clone, Copy)]
+struct KnownSelect<'a> {
+    select: &'a Select,
+    scope: Scope<'a>,
+    /// Where the leaves of its GROUP BY begin.
+    grouping_at: usize,
+}
+
+impl<'a> KnownSelect<'a> {
+    /// The columns that may stand outside of set functions, if its rows are taken in groups.
+    fn groups(&self) -> Option<Groups<'a>> {
+        if is_grouped(self.select) {
+            Some(self.columns())
+        } else {
+            None
+        }
+    }
+
+    fn columns(&self) -> Groups<'a> {
+        Groups {
+            scope: self.scope,
+            columns: grouping_columns(self.select),
+        }
+    }
+}
+
+/// Says what is wrong with a SELECT, if that is found: with its table, or else with its list, its WHERE, its GROUP BY or
+/// its HAVING, the first of them.
 pub fn diagnose_select(
     alloc: Global,
     context: Context,
     select: &Select,
     diagnosis: &mut Diagnosis,
 ) -> Result<bool, AllocError> {
-    let columns = derived_columns(select);
-    let rows = rows_of(select, behind(columns));
-    if let Some(scope) = rows.scope(context.catalog) {
-        if diagnose_list(alloc, context, scope, columns, diagnosis)? {
-            return Ok(true);
-        }
-    }
-    diagnose_rows(alloc, context, rows, diagnosis)
+    let rows = rows_of(select, behind(derived_columns(select)));
+    let Some(scope) = rows.scope(context.catalog) else {
+        return diagnose_rows(alloc, context, rows, diagnosis);
+    };
+    let known = KnownSelect {
+        select,
+        scope,
+        grouping_at: behind_where(rows),
+    };
+    Ok(
+        diagnose_list(alloc, context, known, diagnosis)?
+            || diagnose_rows(alloc, context, rows, diagnosis)?
+            || diagnose_grouping(alloc, context, known, diagnosis)?
+            || diagnose_having(alloc, context, known, diagnosis)?,
+    )
 }
 
-/// Says what is wrong with the first faulty derived column of a table, if one is found.
+/// Says what is wrong with what a SELECT lists, if that is found.
 fn diagnose_list(
     alloc: Global,
     context: Context,
-    scope: Scope,
+    known: KnownSelect,
+    diagnosis: &mut Diagnosis,
+) -> Result<bool, AllocError> {
+    match (&known.select.columns, known.groups()) {
+        (Some(columns), _) => {
+            diagnose_columns(alloc, context, known, columns.as_slice(), diagnosis)
+        }
+        (None, Some(groups)) => diagnose_star(context, groups, diagnosis),
+        (None, None) => Ok(false),
+    }
+}
+
+/// Says that * lists a column that is not in GROUP BY, if it does.
+fn diagnose_star(
+    context: Context,
+    groups: Groups,
+    diagnosis: &mut Diagnosis,
+) -> Result<bool, AllocError> {
+    match context.refusal {
+        Refusal::OutsideClass if !groups.have_all() => {
+            let star = context.piece.token(Kind::Star, 0);
+            diagnose_rule(context.at(star), Rule::StarOutsideGroup, diagnosis)
+        }
+        _ => Ok(false),
+    }
+}
+
+/// Says what is wrong with the first faulty derived column, if one is found.
+fn diagnose_columns(
+    alloc: Global,
+    context: Context,
+    known: KnownSelect,
     columns: &[DerivedColumn],
     diagnosis: &mut Diagnosis,
 ) -> Result<bool, AllocError> {
-    let over_all_rows = columns.iter().any(|column| has_set_function(&column.value));
     let mut at = LIST_AT;
     for column in columns {
         let listed = Listed {
-            scope,
+            scope: known.scope,
+            groups: known.groups(),
             expression: &column.value,
             at,
-            over_all_rows,
         };
         if diagnose_listed(alloc, context, listed, diagnosis)? {
             return Ok(true);
@@ -98,10 +201,10 @@ fn diagnose_list(
 #[derive(Clone, Copy)]
 struct Listed<'a> {
     scope: Scope<'a>,
+    /// The columns that may stand outside of set functions, where not all may.
+    groups: Option<Groups<'a>>,
     expression: &'a Expression,
     at: usize,
-    /// Whether a set function stands in the list.
-    over_all_rows: bool,
 }
 
 /// Says what is wrong with the expression of a derived column, if that is found.
@@ -117,7 +220,7 @@ fn diagnose_listed(
     let parts = parts_of_expression(alloc, listed.expression, listed.at)?;
     let scopes = slice::from_ref(&listed.scope);
     let here = Viewpoint { context, scopes };
-    let outside = in_listed(&parts, listed.over_all_rows);
+    let outside = in_listed(&parts, listed.groups);
     diagnose_expression(alloc, here, &parts, outside, diagnosis)
 }
 
@@ -133,4 +236,41 @@ fn diagnose_type(
         Err(mismatch) => diagnose_types(context, mismatch, diagnosis),
         Ok(_) => Ok(false),
     }
+}
+
+/// Says which name in GROUP BY is none of a column, if one is found.
+fn diagnose_grouping(
+    alloc: Global,
+    context: Context,
+    known: KnownSelect,
+    diagnosis: &mut Diagnosis,
+) -> Result<bool, AllocError> {
+    let names = grouping_columns(known.select);
+    let parts = parts_of_columns(alloc, names, known.grouping_at)?;
+    let scopes = slice::from_ref(&known.scope);
+    let here = Viewpoint { context, scopes };
+    diagnose_expression(alloc, here, &parts, None, diagnosis)
+}
+
+/// Says what is wrong with a HAVING, if that is found.
+fn diagnose_having(
+    alloc: Global,
+    context: Context,
+    known: KnownSelect,
+    diagnosis: &mut Diagnosis,
+) -> Result<bool, AllocError> {
+    let Some(having) = &known.select.having else {
+        return Ok(false);
+    };
+    let site = Site {
+        condition: having.get(),
+        at: behind_grouping(grouping_columns(known.select), known.grouping_at),
+        scopes: slice::from_ref(&known.scope),
+    };
+    if let Refusal::OutsideClass = context.refusal {
+        let parts = parts_of_condition(alloc, site.condition, site.at)?;
+        let outside = in_listed(&parts, Some(known.columns()));
+        return diagnose_shape(context, outside, diagnosis);
+    }
+    diagnose_condition(alloc, context, site, diagnosis)
 }

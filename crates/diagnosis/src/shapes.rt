@@ -80,19 +80,43 @@ fn first_of_rows<'a>(parts: &[Part], of_query: Rule, of_function: Rule) -> Optio
     None
 }
 
-/// The first part of a derived column of a SELECT that is outside the class: a query, or where a set function stands in
-/// the list, a column outside of one.
-pub fn in_listed<'a>(parts: &[Part], over_all_rows: bool) -> Option<Outside<'a>> {
+/// The columns of GROUP BY in a SELECT of groups: those of its table that may stand outside of set functions.
+#[derive(Clone, Copy)]
+pub struct Groups<'a> {
+    pub scope: Scope<'a>,
+    pub columns: &'a [ColumnName],
+}
+
+impl<'a> Groups<'a> {
+    /// Whether a column is one of them.
+    fn have(&self, column: &ColumnName) -> bool {
+        self.have_place(self.scope.own(column))
+    }
+
+    fn have_place(&self, place: Option<usize>) -> bool {
+        self.columns
+            .iter()
+            .any(|column| self.scope.own(column) == place)
+    }
+
+    /// Whether each column of the table is one of them.
+    pub fn have_all(&self) -> bool {
+        (0..self.scope.schema.columns().len()).all(|place| self.have_place(Some(place)))
+    }
+}
+
+/// The first part of what a SELECT lists, or of its HAVING, that is outside the class: a query, or in a SELECT of groups
+/// a column that stands neither in GROUP BY nor in a set function.
+pub fn in_listed<'a>(parts: &[Part], groups: Option<Groups>) -> Option<Outside<'a>> {
     for part in parts {
-        match part.node {
-            Node::Exists(_) | Node::Value(_) => return fault_of_rule(
-                Rule::QueryInStatement,
-                part.range,
-            ),
-            Node::Column(_) if over_all_rows => {
-                return fault_of_rule(Rule::ColumnBesideFunction, part.range);
+        match (part.node, groups) {
+            (Node::Exists(_) | Node::Value(_), _) => {
+                return fault_of_rule(Rule::QueryInStatement, part.range);
             }
-            Node::Column(_) | Node::Function(_) | Node::Arithmetic(_) | Node::End => {}
+            (Node::Column(column), Some(groups)) if !groups.have(column) => {
+                return fault_of_rule(Rule::ColumnOutsideGroup, part.range);
+            }
+            _ => {}
         }
     }
     None

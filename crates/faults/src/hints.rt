@@ -70,6 +70,19 @@ impl<'a> Stop<'a> {
                 .is_some_and(|token| token.kind == Kind::Select)
     }
 
+    /// Whether it stands behind GROUP BY and names alone.
+    fn is_in_grouping(&self) -> bool {
+        let mut others = self.before.iter().rev().skip_while(|token| {
+            matches!(token.kind, Kind::Name | Kind::Dot | Kind::Comma)
+        });
+        others.next().is_some_and(|token| token.kind == Kind::By)
+    }
+
+    /// Whether GROUP BY or HAVING stands before it, and ends there.
+    fn is_behind_groups(&self) -> bool {
+        (self.has_before(Kind::Group) || self.has_before(Kind::Having)) && !self.may_be(Kind::Name)
+    }
+
     fn has_before(&self, kind: Kind) -> bool {
         self.before.iter().any(|token| token.kind == kind)
     }
@@ -88,16 +101,31 @@ const NO_REFERENTIAL_ACTION: &str =
 const ONE_TABLE: &str =
     "A SELECT has one table. Ask for the rows of another by a SELECT of its own.";
 
+/// Of the order in which a SELECT of a session lists.
+const NO_ORDER: &str =
+    "There is no ORDER BY. Rows come in the order of their keys, groups in that of their values in \
+     GROUP BY.";
+
 /// What SQL has and a SELECT of a session has not, with what to write there.
-const IN_SELECT: [(&str, &str); 6] = [
-    ("AVG", "There is no AVG. List SUM(C) and COUNT(C)."),
+const IN_SELECT: [(&str, &str); 10] = [
+    ("ASC", NO_ORDER),
+    (
+        "AVG",
+        "There is no AVG. List SUM(C) and COUNT(C); in HAVING compare SUM(C) with a number times COUNT(C).",
+    ),
     (
         "CASE",
         "There is no CASE. Write a SELECT for each case, with the case in its WHERE.",
     ),
+    ("DESC", NO_ORDER),
     ("INNER", ONE_TABLE),
     ("JOIN", ONE_TABLE),
     ("LEFT", ONE_TABLE),
+    (
+        "LIMIT",
+        "There is no LIMIT. A SELECT lists every row that its WHERE keeps, and every group that its HAVING keeps.",
+    ),
+    ("ORDER", NO_ORDER),
     ("UNION", "There is no UNION: write a SELECT for each query."),
 ];
 
@@ -270,7 +298,8 @@ fn push_sentence(sentence: &str, advice: &mut String) -> Result<(), AllocError> 
 
 /// By what stands there and before it.
 fn by_kind(stop: &Stop) -> Option<&'static str> {
-    by_clause(stop)
+    by_grouping(stop)
+        .or(by_clause(stop))
         .or(by_sign(stop))
         .or(by_function(stop))
         .or(by_quantifier(stop))
@@ -317,15 +346,52 @@ fn by_function(stop: &Stop) -> Option<&'static str> {
     }
 }
 
-/// Of the list of a SELECT of a session, and of clauses that it has not.
+/// Of what stands behind GROUP BY and is no column.
+fn by_grouping(stop: &Stop) -> Option<&'static str> {
+    if !stop.is_in_grouping() {
+        return None;
+    }
+    match (stop.token.kind, stop.last()) {
+        (Kind::Where | Kind::Having | Kind::Semicolon, Kind::By) => {
+            Some("GROUP BY names a column.")
+        }
+        (Kind::Where | Kind::Having | Kind::Semicolon, Kind::Comma) => {
+            Some("Behind this comma GROUP BY names one more column.")
+        }
+        (kind, _) if is_of_expressions(kind) => {
+            Some("GROUP BY takes columns by their names, and nothing else.")
+        }
+        _ => None,
+    }
+}
+
+/// Whether a token stands in expressions, and is no column.
+fn is_of_expressions(kind: Kind) -> bool {
+    matches!(
+        kind,
+        Kind::Number
+            | Kind::Text
+            | Kind::Null
+            | Kind::Open
+            | Kind::Star
+            | Kind::Plus
+            | Kind::Minus
+            | Kind::Count
+            | Kind::Sum
+            | Kind::Min
+            | Kind::Max
+    )
+}
+
+/// Of the list of a SELECT of a session, and of its clauses.
 fn by_clause(stop: &Stop) -> Option<&'static str> {
     if !stop.is_in_select() {
         return None;
     }
     match (stop.token.kind, stop.last()) {
-        (Kind::Group | Kind::Having, _) => Some(
-            "A SELECT of a session makes no groups: its set functions are of all rows that its WHERE keeps.",
-        ),
+        (Kind::Where | Kind::Group, _) if stop.is_behind_groups() => {
+            Some("The clauses of a SELECT stand in this order: FROM, WHERE, GROUP BY, HAVING.")
+        }
         (Kind::Comma, _) if is_behind(Kind::From, stop.before) => Some(ONE_TABLE),
         (Kind::Comma, Kind::Star) => {
             Some(
@@ -342,9 +408,6 @@ fn by_clause(stop: &Stop) -> Option<&'static str> {
 /// Of ALL and DISTINCT.
 fn by_quantifier(stop: &Stop) -> Option<&'static str> {
     match (stop.token.kind, stop.last()) {
-        (Kind::Distinct, Kind::Select) if stop.which == Which::Script => {
-            Some("DISTINCT stands in set functions alone: COUNT(DISTINCT C).")
-        }
         (Kind::Distinct, Kind::Select) => Some(
             "DISTINCT stands in set functions alone: COUNT(DISTINCT C). GROUP BY makes one group of each value.",
         ),
@@ -468,7 +531,9 @@ fn is_of_sessions(kind: Kind) -> bool {
 /// Of what stands behind a comma, or of the comma itself.
 fn by_list(stop: &Stop) -> Option<&'static str> {
     match (stop.token.kind, stop.last()) {
-        (Kind::Comma, _) if is_behind(Kind::By, stop.before) => Some("GROUP BY takes one column."),
+        (Kind::Comma, _) if is_behind(Kind::By, stop.before) => {
+            Some("GROUP BY of a query in a rule takes one column.")
+        }
         (Kind::Comma, _) if is_behind(Kind::From, stop.before) => Some(
             "A query has one table. Link another one: EXISTS (SELECT * FROM D WHERE D.COLUMN = R.KEY).",
         ),

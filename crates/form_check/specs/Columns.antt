@@ -1,5 +1,6 @@
 -- What a column's name means in a condition, where only some may stand.
-use Rattle.std.specs.Prelude.{ℕ, ◌==◌, Option, Some, None, if◌then◌else◌}
+use Rattle.std.specs.Prelude.{ℕ, ◌==◌, List, Option, Some, None, if◌then◌else◌}
+use Rattle.std.specs.List.{list_any}
 use Rattle.std.specs.Option.{option_map}
 use Rattle.table.specs.declared.exprs.Expr.{Expr}
 use Rattle.table.specs.declared.exprs.Expr.TheVariants.{Column, Slot}
@@ -18,6 +19,15 @@ in_group group (Some column) = if column == group then Some 0 else None
 -- the grouping column alone
 abbrev pub grouping_column : Scope → ℕ → ColumnName → Option ℕ
 grouping_column scope group column = in_group group (own_column scope column)
+
+-- a column, if it is one of these
+abbrev pub among : List ℕ → Option ℕ → Option ℕ
+among columns None = None
+among columns (Some column) = if list_any (λ c. c == column) columns then Some column else None
+
+-- one of the columns of GROUP BY, which stand in each row of a group
+abbrev pub grouped_column : Scope → List ℕ → ColumnName → Option ℕ
+grouped_column scope grouping column = among grouping (own_column scope column)
 
 -- the column of the row at hand at a place
 abbrev pub at_place : (ColumnName → Option ℕ) → ColumnName → Option Expr

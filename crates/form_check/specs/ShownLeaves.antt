@@ -4,7 +4,7 @@ use Rattle.syntax.specs.declared.trees.ColumnName.{ColumnName}
 use Rattle.table.specs.declared.exprs.Expr.{Expr}
 use Rattle.form_check.specs.Scopes.{own_column}
 use Rattle.form_check.specs.ShownScopes.{lent_scope}
-use Rattle.form_check.specs.Columns.{no_column, grouping_column, at_place, of_both}
+use Rattle.form_check.specs.Columns.{no_column, grouping_column, grouped_column, at_place, of_both}
 use Rattle.form_check.specs.declared.leaves.Leaf.{Leaf as Lent}
 use Rattle.form_check.specs.declared.leaves.Leaf.TheVariants as lent
 use Rattle.form_check.specs.declared.leaves.Columns.{Columns}
@@ -27,6 +27,7 @@ abbrev pub place : Columns → ColumnName → Option ℕ
 place columns.None = no_column
 place (columns.Own scope) = own_column (lent_scope scope)
 place (columns.Grouping scope group) = grouping_column (lent_scope scope) group
+place (columns.Grouped scope grouping) = grouped_column (lent_scope scope) grouping.now
 place (columns.Both child root) = own_column (lent_scope child)
 
 -- what a name means, where it may stand there
@@ -34,4 +35,5 @@ abbrev pub meaning_of : Columns → ColumnName → Option Expr
 meaning_of columns.None = at_place no_column
 meaning_of (columns.Own scope) = at_place (own_column (lent_scope scope))
 meaning_of (columns.Grouping scope group) = at_place (grouping_column (lent_scope scope) group)
+meaning_of (columns.Grouped scope grouping) = at_place (grouped_column (lent_scope scope) grouping.now)
 meaning_of (columns.Both child root) = of_both (lent_scope child) (lent_scope root)

@@ -1,7 +1,8 @@
 //! Conditions over the columns of one table, with a slot for each set function and query.
 
-ghost use Rattle.std.specs.Prelude.{◌≡◌, ◌≢◌, ◌++◌, ◌∷◌, [], length, IfOk, IfErr, OnOk, Ok, Err};
+ghost use Rattle.std.specs.Prelude.{◌≡◌, ◌≢◌, ◌++◌, ◌∷◌, [], length, IfOk, IfErr, OnOk, Ok, Err, Some};
 ghost use Rattle.value.specs.declared.refusals.Refusal.TheVariants.{NoMemory};
+ghost use Rattle.form_check.specs.Columns.{among};
 ghost use Rattle.form_check.specs.Leaves.{between, comparison_of, in_predicate_of, numbered, numbered_conditions, numbered_expression, numbered_expressions, slot};
 ghost use Rattle.form_check.specs.ShownLeaves.{shown_leaf, shown_leaves, place, meaning_of};
 
@@ -33,6 +34,8 @@ pub enum Columns<'a> {
     Own(Scope<'a>),
     /// The grouping column of a table alone. It stands in column 0 of a group's row.
     Grouping(Scope<'a>, usize),
+    /// Those of GROUP BY alone, where they stand in a row of the group.
+    Grouped(Scope<'a>, &'a [usize]),
     /// Those of a query's table, and in slots what the row around has in its columns, the table of which is the second.
     Both(Scope<'a>, Scope<'a>),
 }
@@ -47,7 +50,8 @@ impl<'a> Columns<'a> {
         }
         match self {
             Columns::Both(child, root) => Some(Expr::Slot(child.outer(root, column)?)),
-            Columns::None | Columns::Own(_) | Columns::Grouping(_, _) => None,
+            Columns::None | Columns::Own(_) | Columns::Grouping(_, _) | Columns::Grouped(_, _) =>
+                None,
         }
     }
 
@@ -62,7 +66,19 @@ impl<'a> Columns<'a> {
                 Some(found) if found == *group => Some(0),
                 Some(_) | None => None,
             },
+            Columns::Grouped(scope, grouping) => among(grouping, scope.own(column)?),
         }
+    }
+}
+
+/// A column, if it is one of these.
+pub fn among(columns: &[usize], column: usize) -> Option<usize>
+    ensures { result ≡ among columns.now (Some column) }
+{
+    if columns.contains(&column) {
+        Some(column)
+    } else {
+        None
     }
 }
 

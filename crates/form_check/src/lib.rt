@@ -36,8 +36,9 @@
 //!
 //! A *row condition* (WHERE of a statement, and of most queries) is over the columns of its own table alone: no set
 //! function, no query, no column of a table around it ([`row_condition`]). A *row expression* is so too
-//! ([`row_expression`]). A *summary* is over set functions of such rows together, and names no column outside them
-//! ([`summary_expression`]): what a SELECT lists where a set function stands in its list (7.9).
+//! ([`row_expression`]). A *summary* is over a group of such rows: over set functions of them, and outside those over
+//! the columns of GROUP BY alone, in which they are alike ([`summary_expression`]). So is what a SELECT lists where it
+//! has GROUP BY, HAVING or a set function (7.9), and so is the condition of its HAVING ([`group_condition`]).
 //!
 //! An assertion's condition ([`form`]; SQL-92, ISO/IEC 9075:1992, assertion definition; which cut of it, is this
 //! project's choice) has one of three forms:
@@ -79,8 +80,11 @@ mod summaries;
 mod trees;
 
 pub use forms::form;
-pub use leaves::{Columns, Leaf, numbered_condition, numbered_expression};
+pub use leaves::{Columns, Leaf, among, numbered_condition, numbered_expression};
 pub use queries::{Source, row_condition, row_expression, row_filter};
-pub use scopes::{Scope, exposed_name};
-pub use summaries::{Summary, has_set_function, summary_expression};
+pub use scopes::{Scope, exposed_name, look_up_column};
+pub use summaries::{
+    GroupCondition, Summary, group_condition, grouping_columns, has_set_function,
+    summary_expression,
+};
 pub use trees::{look_up_condition, look_up_expression};

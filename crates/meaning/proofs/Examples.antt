@@ -2,7 +2,7 @@
 -- a WHERE, computed.
 use Rattle.std.proofs.Common.{◌≡◌, ℕ, pos, true, List, [], ◌∷◌, Option, Some, None, refl, ap, ◌∙◌, sym, inl, inr}
 use Rattle.std.proofs.lemmas.Option.{same_Some}
-use Rattle.std.specs.Prelude.{◌==◌, ◌||◌, false, filter_map, find, map}
+use Rattle.std.specs.Prelude.{◌==◌, ◌||◌, false, filter, filter_map, find, map}
 use Rattle.std.specs.Option.{option_or}
 use Rattle.value.specs.declared.values.Value.{Value}
 use Rattle.value.specs.declared.values.Value.TheVariants.{Null, Int}
@@ -49,7 +49,7 @@ use Rattle.meaning.specs.Class.{IsColumnAt, IsOuterColumn, IsLink, IsLinkedWhere
 use Rattle.meaning.specs.Keys as keys
 use Rattle.meaning.specs.Meaning as written
 use Rattle.meaning.specs.Meaning.{References, Evaluation, Answer, answers, simple, first_value, column_values, rows_counted, set_of_column, only_value, is_any, written_bad_roots, written_truth}
-use Rattle.meaning.specs.Laws.{reference_to, rows_by_filter, written_select}
+use Rattle.meaning.specs.Laws.{reference_to, rows_by_filter, written_groups, written_select}
 use Rattle.meaning.proofs.Classes.{of_link, link_over}
 use Rattle.meaning.proofs.Keys.{in_parts, where_key_is, shown_expr, shown_cond}
 use Rattle.meaning.proofs.Nodes.{clauses, clauses_as, number_is, column_is, count_is, set_is, value_is, compare_is, both_is, exists_is, denies_is, star_is, one_is, filtered_is, grouped_is}
@@ -313,7 +313,8 @@ single_satisfied = single_roots nobody (roll-Expression (Expression-F.Aggregate 
 -- ---- SELECT
 
 abbrev from_d : Option (List DerivedColumn) → Select
-from_d columns = record { columns = columns; table = D ∷ []; correlation_name = None; keeps = None }
+from_d columns =
+    record { columns = columns; table = D ∷ []; correlation_name = None; keeps = None; group_by = None; having = None }
 
 abbrev one_from_d : Expression → Select
 one_from_d e = from_d (Some (record { value = e; name = None } ∷ []))
@@ -324,8 +325,8 @@ every_column = refl
 
 -- SELECT e FROM D, by what e means
 one_given : (state : State) (e : Expression) (v : Evaluation) → written.evaluation_of both state e ≡ v
-    → written_select both state (one_from_d e) ≡ map (λ rows. v.value (written.with_rows (written.table_of both state (D ∷ []) None) rows []) ∷ []) (written.groups_of_rows None (v.sets || false) (rows_by_filter both state (D ∷ []) None None))
-one_given state e v is = ap (λ (v : Evaluation). map (λ rows. v.value (written.with_rows (written.table_of both state (D ∷ []) None) rows []) ∷ []) (written.groups_of_rows None (v.sets || false) (rows_by_filter both state (D ∷ []) None None))) is
+    → written_select both state (one_from_d e) ≡ map (λ rows. v.value (written.with_rows (written.table_of both state (D ∷ []) None) rows []) ∷ []) (filter (λ rows. true) (written_groups (written.table_of both state (D ∷ []) None) None (v.sets || false) (rows_by_filter both state (D ∷ []) None None)))
+one_given state e v is = ap (λ (v : Evaluation). map (λ rows. v.value (written.with_rows (written.table_of both state (D ∷ []) None) rows []) ∷ []) (filter (λ rows. true) (written_groups (written.table_of both state (D ∷ []) None) None (v.sets || false) (rows_by_filter both state (D ∷ []) None None)))) is
 
 -- a column gives a row for each row, and so none where there is none
 one_column : written_select both week (one_from_d (column (bare S))) ≡ (number 7 ∷ []) ∷ (number 8 ∷ []) ∷ []

@@ -1,5 +1,5 @@
 -- The laws of what is written and what is resolved.
-use Rattle.std.specs.Prelude.{◌≡◌, ◌↔◌, ℕ, Bool, false, Contains, IsNone, IsTrue, List, [], ◌∷◌, ◌++◌, filter, map}
+use Rattle.std.specs.Prelude.{◌≡◌, ◌↔◌, ℕ, Bool, true, false, ◌||◌, is_some, Contains, IsNone, IsTrue, List, [], ◌∷◌, ◌++◌, filter, map}
 use Rattle.std.specs.Prelude.{Option, Some, None, option_map, Ok}
 use Rattle.std.specs.Bool.{IsFalse}
 use Rattle.value.specs.declared.values.Value.{Value}
@@ -13,6 +13,7 @@ use Rattle.assertion.specs.declared.forms.Form.{Form}
 use Rattle.assertion.specs.declared.assertions.Assertion.{Assertion}
 use Rattle.assertion.specs.declared.queries.Link.{Link}
 use Rattle.assertion.specs.Meaning.{State, rows_of, filtered_rows, bad_roots, verdict_of, least_bad_of}
+use Rattle.syntax.specs.declared.trees.ColumnName.{ColumnName}
 use Rattle.syntax.specs.declared.trees.Condition.{Condition, out-Condition}
 use Rattle.syntax.specs.Grammar.{and_layer}
 use Rattle.syntax.specs.declared.trees.Expression.{Expression}
@@ -36,10 +37,11 @@ use Rattle.assertcheck.specs.Assertions.{are_at_odds, attributes_of, checked_ass
 use Rattle.assertcheck.specs.Selects.{select_of}
 use Rattle.assertcheck.specs.Statements.{delete_of, places_from}
 use Rattle.assertcheck.specs.Updates.{update_of}
+use Rattle.alone.specs.Groups.{groups_by}
 use Rattle.alone.specs.Statements.{listed_rows}
 use Rattle.meaning.specs.Class.{Each, IsInClass, IsLinkedWhere, IsOverBoth, JoinsRow}
 use Rattle.meaning.specs.Meaning.{Reference, References, truth, evaluation_of, passes, with_rows, table_of}
-use Rattle.meaning.specs.Meaning.{any_sets, first_value, groups_of_rows, values_at}
+use Rattle.meaning.specs.Meaning.{any_sets, column_values, first_value, values_at}
 use Rattle.meaning.specs.Meaning.{written_truth, written_bad_roots, written_least}
 
 -- a table as names see it, with rows at hand
@@ -178,13 +180,27 @@ abbrev pub lists_sets : Tables → State → Option (List DerivedColumn) → Boo
 lists_sets tables state None = false
 lists_sets tables state (Some columns) = any_sets (map (λ column. evaluation_of tables state column.value) columns)
 
--- the rows that a SELECT gives, as it is written: its list of each row that its WHERE says, or, where a set function
--- stands in it, of all of them together
+-- the values of a row in the columns of GROUP BY
+abbrev pub grouping_values : Reference → List ColumnName → RowValues → List Value
+grouping_values table names row = map (λ name. first_value (column_values name (with_rows table (row ∷ []) []))) names
+
+-- what a SELECT lists something of, as it is written: the groups that GROUP BY makes of its rows, in the order of their
+-- values (7.7; it has a column in every text); with HAVING or a set function alone one group of them all, and else each
+-- row on its own (7.9)
+abbrev pub written_groups : Reference → Option (List ColumnName) → Bool → List RowValues → List (List RowValues)
+written_groups table (Some []) sets rows = rows ∷ []
+written_groups table (Some (name ∷ names)) sets rows = groups_by (grouping_values table (name ∷ names)) rows
+written_groups table None true rows = rows ∷ []
+written_groups table None false rows = map (λ row. row ∷ []) rows
+
+-- the rows that a SELECT gives, as it is written: FROM and WHERE, GROUP BY, HAVING and the list, one after the other
 abbrev pub written_select : Tables → State → Written → List RowValues
 written_select tables state select =
-    map (written_columns tables state (table_of tables state select.table select.correlation_name) select.columns)
-    (groups_of_rows None (lists_sets tables state select.columns)
-    (rows_by_filter tables state select.table select.correlation_name select.keeps))
+    let table = table_of tables state select.table select.correlation_name in
+    map (written_columns tables state table select.columns) (
+    filter (λ rows. passes (option_map (truth tables state) select.having) (with_rows table rows [])) (
+    written_groups table select.group_by (is_some select.having || lists_sets tables state select.columns) (
+    rows_by_filter tables state select.table select.correlation_name select.keeps)))
 
 -- a SELECT gives the rows that are written
 abbrev pub SelectsWritten : Type 0

@@ -6,13 +6,16 @@ ghost use Rattle.leaf_parser.specs.Reads.{Reads};
 use crate::inserts::parse_insert;
 use condition_parser::{parse_condition, parse_expression};
 use leaf_parser::{
-    Cursor, NamePart, Part, Stop, drop_and_stop, expect_after, parse_correlation_name, parse_list,
-    parse_name,
+    Cursor, NamePart, Part, Stop, drop_and_stop, expect_after, parse_column,
+    parse_correlation_name, parse_list, parse_name,
 };
 use sqlite_items::{Boxed, Items};
 use std::alloc::Global;
-use syntax::{Assignment, Condition, DerivedColumn, Mode, Select, Statement, UpdateSource, Which};
+use syntax::{
+    Assignment, ColumnName, Condition, DerivedColumn, Mode, Select, Statement, UpdateSource, Which,
+};
 use token::Kind;
+use value::Text;
 
 /// `DEFERRED | IMMEDIATE`
 #[tactic(auto, unfolding(syntax::specs::StatementReaders::check_time))]
@@ -201,7 +204,96 @@ fn parse_selected(
     }
 }
 
-/// `SELECT ("*" | item { "," item }) FROM name [ [AS] name ] [WHERE cond]`
+/// A column of GROUP BY: `colref`.
+#[derive(Drop)]
+struct GroupingColumn(Global);
+
+impl Part for GroupingColumn {
+    ghost use Rattle.syntax.specs.Readers.{column};
+
+    type Tree = ColumnName;
+
+    ghost ready = { λ _. Unit {0} };
+
+    ghost reader = { λ _. column };
+
+    fn parse(&self, cursor: &mut Cursor<'_>) -> Result<ColumnName, Stop> {
+        parse_column(self.0, cursor)
+    }
+}
+
+/// `[GROUP BY colref { "," colref }]`
+#[tactic(auto, unfolding(syntax::specs::StatementReaders::group_by))]
+fn parse_grouping_columns(
+    alloc: Global,
+    cursor: &mut Cursor<'_>,
+) -> Result<Option<Items<ColumnName>>, Stop>
+    ensures { Reads (reader.group_by cursor.old) result cursor.new }
+{
+    if !cursor.is(Kind::Group) {
+        return Ok(None);
+    }
+    cursor.expect(Kind::Group)?;
+    cursor.expect(Kind::By)?;
+    Ok(Some(parse_list(alloc, &GroupingColumn(alloc), cursor)?))
+}
+
+/// `[HAVING cond]`
+#[tactic(auto, unfolding(syntax::specs::StatementReaders::having))]
+fn parse_having(
+    alloc: Global,
+    cursor: &mut Cursor<'_>,
+    depth: usize,
+) -> Result<Option<Boxed<Condition>>, Stop>
+    ensures { Reads (reader.having depth cursor.old) result cursor.new }
+{
+    if !cursor.is(Kind::Having) {
+        return Ok(None);
+    }
+    cursor.expect(Kind::Having)?;
+    Ok(Some(parse_condition(alloc, cursor, depth)?))
+}
+
+/// A table reference: `name [ [AS] name ]`.
+#[derive(Drop)]
+struct TableReference {
+    table: Text,
+    correlation_name: Option<Text>,
+}
+
+/// What the rows of a SELECT are: `[WHERE cond] [GROUP BY colref { "," colref }] [HAVING cond]`
+#[tactic(auto, unfolding(syntax::specs::StatementReaders::selected_rows))]
+fn parse_selected_rows(
+    alloc: Global,
+    cursor: &mut Cursor<'_>,
+    depth: usize,
+    columns: Option<Items<DerivedColumn>>,
+    from: TableReference,
+) -> Result<Select, Stop>
+    ensures { Reads (reader.selected_rows depth columns from.table from.correlation_name cursor.old) result cursor.new }
+{
+    let keeps = match parse_where(alloc, cursor, depth) {
+        Ok(keeps) => keeps,
+        Err(stop) => return Err(drop_and_stop(stop, (columns, from))),
+    };
+    let group_by = match parse_grouping_columns(alloc, cursor) {
+        Ok(group_by) => group_by,
+        Err(stop) => return Err(drop_and_stop(stop, (columns, from, keeps))),
+    };
+    match parse_having(alloc, cursor, depth) {
+        Ok(having) => Ok(Select {
+            columns,
+            table: from.table,
+            correlation_name: from.correlation_name,
+            keeps,
+            group_by,
+            having,
+        }),
+        Err(stop) => Err(drop_and_stop(stop, (columns, from, keeps, group_by))),
+    }
+}
+
+/// `SELECT ("*" | item { "," item }) FROM name [ [AS] name ]`, and what its rows are.
 #[tactic(auto, unfolding(syntax::specs::StatementReaders::select))]
 fn parse_select(alloc: Global, cursor: &mut Cursor<'_>, depth: usize) -> Result<Select, Stop>
     ensures { Reads (reader.select depth cursor.old) result cursor.new }
@@ -213,18 +305,15 @@ fn parse_select(alloc: Global, cursor: &mut Cursor<'_>, depth: usize) -> Result<
         Ok(table) => table,
         Err(stop) => return Err(drop_and_stop(stop, columns)),
     };
-    let correlation_name = match parse_correlation_name(alloc, cursor) {
-        Ok(name) => name,
-        Err(stop) => return Err(drop_and_stop(stop, (columns, table))),
-    };
-    match parse_where(alloc, cursor, depth) {
-        Ok(keeps) => Ok(Select {
-            columns,
-            table,
-            correlation_name,
-            keeps,
-        }),
-        Err(stop) => Err(drop_and_stop(stop, (columns, table, correlation_name))),
+    match parse_correlation_name(alloc, cursor) {
+        Ok(correlation_name) => {
+            let from = TableReference {
+                table,
+                correlation_name,
+            };
+            parse_selected_rows(alloc, cursor, depth, columns, from)
+        }
+        Err(stop) => Err(drop_and_stop(stop, (columns, table))),
     }
 }
 

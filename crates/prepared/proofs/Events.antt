@@ -1,9 +1,10 @@
 -- Each rule of statements and events keeps the numbers of its text.
-use Rattle.std.proofs.Common.{◌≡◌, Bool, true, false, [], ◌∷◌, ◌++◌, map, Option, Some, None, refl, sym, ap, append_assoc}
+use Rattle.std.proofs.Common.{◌≡◌, ℕ, Bool, true, false, List, [], ◌∷◌, ◌++◌, map, Option, Some, None, refl, sym, ap, ◌∙◌, append_assoc}
 use Rattle.token.specs.declared.kinds.Kind.TheVariants as k
 use Rattle.value.specs.declared.values.Value.TheVariants as v
 use Rattle.syntax.specs.Grammar as grammar
 use Rattle.syntax.specs.declared.statements.UpdateSource.TheVariants as to
+use Rattle.syntax.specs.declared.statements.DerivedColumn.{DerivedColumn}
 use Rattle.syntax.specs.declared.statements.Which.TheVariants as which
 use Rattle.syntax.specs.declared.statements.Mode.TheVariants as mode
 use Rattle.syntax.specs.declared.statements.Statement.TheVariants as s
@@ -13,9 +14,9 @@ use Rattle.syntax.specs.StatementGrammar as g
 use Rattle.syntax.specs.declared.wants.PartInParentheses.{PartInParentheses}
 use Rattle.syntax.specs.Language.{Lexeme, Lexemes, Language}
 use Rattle.syntax.specs.Language as lang
-use Rattle.prepared.specs.Numerals.{numerals, numerals_of_parts, condition_numerals, expression_numerals, value_numerals, row_numerals, insert_numerals, assigned_numerals, assignment_numerals, filter_numerals, derived_column_numerals, selected_numerals, select_numerals, statement_numerals, event_numerals}
-use Rattle.prepared.proofs.Yields.{Adds, Silent, yields_token, yields_number, yields_map, yields_then, yields_seq, yields_list, silent_pure, silent_or, silent_seq, silent_map, silent_optional, silent_parens, silent_list, adds_pure, adds_or, adds_seq, adds_parens, adds_map, adds_none, adds_behind}
-use Rattle.prepared.proofs.Rules.{abs_signed, silent_name, silent_correlation_name, found_numerals, inner_expr, inner_cond, nested}
+use Rattle.prepared.specs.Numerals.{Numerals, numerals, numerals_of_parts, condition_numerals, expression_numerals, value_numerals, row_numerals, insert_numerals, assigned_numerals, assignment_numerals, filter_numerals, derived_column_numerals, selected_numerals, select_numerals, statement_numerals, event_numerals}
+use Rattle.prepared.proofs.Yields.{Yields, Adds, Silent, yields_token, yields_number, yields_map, yields_then, yields_seq, yields_list, silent_pure, silent_or, silent_seq, silent_map, silent_optional, silent_parens, silent_list, adds_pure, adds_or, adds_seq, adds_parens, adds_map, adds_none, adds_behind}
+use Rattle.prepared.proofs.Rules.{abs_signed, silent_name, silent_column, silent_correlation_name, found_numerals, inner_expr, inner_cond, nested}
 
 -- ---- parts without a number
 
@@ -30,6 +31,10 @@ silent_check_time = silent_or _ _ (silent_seq k.Deferred _ refl (silent_pure mod
 silent_constraints : Silent g.constraints
 unfolding g.constraints
 silent_constraints = silent_or _ _ (silent_seq k.All _ refl (silent_pure which.All)) (silent_map which.Names (lang.list grammar.name) (silent_list grammar.name silent_name))
+
+silent_group_by : Silent g.group_by
+unfolding g.group_by
+silent_group_by = silent_optional _ (silent_seq k.Group _ refl (silent_seq k.By _ refl (silent_list grammar.column silent_column)))
 
 silent_work : Silent (lang.optional (lang.token k.Work))
 silent_work = silent_optional (lang.token k.Work) (λ before. yields_token k.Work before refl)
@@ -134,6 +139,24 @@ module _ (inner : Language PartInParentheses) (adds : Adds inner found_numerals)
       (adds_map Some (lang.list (g.derived_column inner)) (λ columns. numerals_of_parts (map derived_column_numerals columns)) selected_numerals (λ columns. refl)
       (yields_list (g.derived_column inner) derived_column_numerals derived_column))
 
+  having : Adds (g.having inner) filter_numerals
+  unfolding g.having
+  having =
+      adds_or _ _ filter_numerals (adds_pure None filter_numerals refl)
+      (adds_map Some _ condition_numerals filter_numerals (λ c. refl) (adds_seq k.Having _ condition_numerals refl (inner_cond inner adds)))
+
+  selected_rows : (columns : Option (List DerivedColumn)) (table : List ℕ) (other : Option (List ℕ)) (before : Numerals)
+      → Yields (g.selected_rows inner columns table other) (before ++ selected_numerals columns) (λ x. before ++ select_numerals x)
+  unfolding g.selected_rows
+  selected_rows columns table other before =
+      let behind : Numerals = before ++ selected_numerals columns in
+      yields_then (g.where_clause inner) _ behind (λ keeps. behind ++ filter_numerals keeps) (λ x. before ++ select_numerals x) (where_clause behind)
+      (λ keeps. let kept : Numerals = behind ++ filter_numerals keeps in
+      yields_then g.group_by _ kept (λ _. kept) (λ x. before ++ select_numerals x) (silent_group_by kept)
+      (λ group. yields_map (g.select_of columns table other keeps group) (g.having inner) kept (λ having. kept ++ filter_numerals having) (λ x. before ++ select_numerals x) (having kept)
+      (λ having. sym (append_assoc before (selected_numerals columns) (filter_numerals keeps ++ filter_numerals having))
+      ∙ sym (append_assoc behind (filter_numerals keeps) (filter_numerals having)))))
+
   select : Adds (g.select inner) select_numerals
   unfolding g.select
   select =
@@ -143,8 +166,7 @@ module _ (inner : Language PartInParentheses) (adds : Adds inner found_numerals)
       yields_seq k.From _ behind (λ x. before ++ select_numerals x) refl
       (yields_then grammar.name _ behind (λ _. behind) (λ x. before ++ select_numerals x) (silent_name behind)
       (λ table. yields_then grammar.correlation_name _ behind (λ _. behind) (λ x. before ++ select_numerals x) (silent_correlation_name behind)
-      (λ other. yields_map (g.select_of columns table other) (g.where_clause inner) behind (λ keeps. behind ++ filter_numerals keeps) (λ x. before ++ select_numerals x) (where_clause behind)
-      (λ keeps. sym (append_assoc before (selected_numerals columns) (filter_numerals keeps))))))))
+      (λ other. selected_rows columns table other before)))))
 
   statement : Adds (g.statement inner) statement_numerals
   unfolding g.statement

@@ -35,7 +35,7 @@ use Rattle.prepared.specs.Statements.{filled_value, filled_values, filled_rows, 
 use Rattle.prepared.specs.Written.{IsConstant, IsValue, Writes, for_token, behind_token, written_token, tokens_with_constants}
 use Rattle.prepared.proofs.Keeps.{Prior, Sign, Other, Ends, Any, Clear, ClearAt, left, Kept, Keeps, Quiet, some_result, keeps_pure, keeps_or, keeps_either, keeps_into, keeps_less, keeps_as, keeps_then, keeps_map, keeps_seq, keeps_parens, keeps_behind, keeps_quiet, keeps_optional, keeps_list, quiet_pure, quiet_or, quiet_seq, quiet_less, quiet_parens, quiet_token, quiet_map, quiet_list, quiet_optional}
 use Rattle.prepared.proofs.Fills.{expression_rolled, no_answer}
-use Rattle.prepared.proofs.WrittenRules.{Inner, map_reads, seq_reads, of_token, quiet_name, quiet_correlation_name, nested}
+use Rattle.prepared.proofs.WrittenRules.{Inner, map_reads, seq_reads, of_token, quiet_name, quiet_column, quiet_correlation_name, nested}
 
 -- ---- what an UPDATE gives to a column
 
@@ -61,9 +61,9 @@ layer_assigned x y now rest _ r h = ap (then_made to.To) h
 expression_assigned : (x y : Expression) (now rest : Constants) → filled_expression x now ≡ Ok (y, rest) → filled_assigned (to.To x) now ≡ Ok (to.To y, rest)
 expression_assigned x y now rest h = layer_assigned x y now rest (out-Expression x) (roll-out-Expression x) h
 
-where_is : (z : Option Condition) (now : Constants) → some_result (λ c. filled_condition c now) now z ≡ filled_filter z now
-where_is None now = refl
-where_is (Some z) now = refl
+filter_is : (z : Option Condition) (now : Constants) → some_result (λ c. filled_condition c now) now z ≡ filled_filter z now
+filter_is None now = refl
+filter_is (Some z) now = refl
 
 begins : (only : Option Lexeme) (now : Constants) → filled_event (g.begin_of only) now ≡ Ok (g.begin_of only, now)
 begins None now = refl
@@ -79,6 +79,13 @@ module _ (write : Argument → Lexemes) (ok : Value → Type 0) where
   quiet_columns : (p : Prior) → Quiet write ok g.columns p Any
   unfolding g.columns
   quiet_columns p = quiet_optional write ok _ p Any tt (quiet_less write ok _ p Ends Any (λ q ends. tt) (quiet_parens write ok (lang.list grammar.name) p Ends names))
+
+  quiet_group_by : (p : Prior) → Quiet write ok g.group_by p Any
+  unfolding g.group_by
+  quiet_group_by p =
+      quiet_optional write ok _ p Any tt
+      (quiet_seq write ok k.Group _ p Other Any refl refl (quiet_seq write ok k.By _ Other Other Any refl refl
+      (quiet_less write ok (lang.list grammar.column) Other Ends Any (λ q ends. tt) (quiet_list write ok grammar.column Ends (quiet_column write ok Other)))))
 
   quiet_check_time : (p : Prior) → Quiet write ok g.check_time p Any
   unfolding g.check_time
@@ -242,7 +249,7 @@ module _ (write : Argument → Lexemes) (ok : Value → Type 0) where
       where_clause : (p : Prior) (now : Constants) → Keeps write ok (g.where_clause inner) (g.where_clause inner) now (λ z. filled_filter z now) p Any
       unfolding g.where_clause
       where_clause p now =
-          keeps_as write ok _ _ now (some_result (λ z. filled_condition z now) now) (λ z. filled_filter z now) p Any (λ z y rest is. sym (where_is z now) ∙ is)
+          keeps_as write ok _ _ now (some_result (λ z. filled_condition z now) now) (λ z. filled_filter z now) p Any (λ z y rest is. sym (filter_is z now) ∙ is)
           (keeps_optional write ok _ _ now (λ z. filled_condition z now) p Any tt
           (keeps_seq write ok k.Where (grammar.inner_cond inner) (grammar.inner_cond inner) now (λ z. filled_condition z now) p Other Any refl refl (i.cond now)))
 
@@ -302,6 +309,26 @@ module _ (write : Argument → Lexemes) (ok : Value → Type 0) where
           (keeps_list write ok (g.derived_column inner) (g.derived_column inner) filled_derived_column Any derived_column now)
           (λ columns columns' rest is. ap (then_made Some) is))
 
+      having : (p : Prior) (now : Constants) → Keeps write ok (g.having inner) (g.having inner) now (λ z. filled_filter z now) p Any
+      unfolding g.having
+      having p now =
+          keeps_as write ok _ _ now (some_result (λ z. filled_condition z now) now) (λ z. filled_filter z now) p Any (λ z y rest is. sym (filter_is z now) ∙ is)
+          (keeps_optional write ok _ _ now (λ z. filled_condition z now) p Any tt
+          (keeps_seq write ok k.Having (grammar.inner_cond inner) (grammar.inner_cond inner) now (λ z. filled_condition z now) p Other Any refl refl (i.cond now)))
+
+      selected_rows : (x y : Option (List DerivedColumn)) (table : List ℕ) (other : Option (List ℕ)) (start now : Constants) (p : Prior) → filled_selected x start ≡ Ok (y, now)
+          → Keeps write ok (g.selected_rows inner x table other) (g.selected_rows inner y table other) now (λ z. filled_select z start) p Any
+      unfolding g.selected_rows
+      selected_rows x y table other start now p h =
+          let fill = λ (z : Select). filled_select z start in
+          keeps_then write ok (g.where_clause inner) (g.where_clause inner) _ _ now (λ z. filled_filter z now) fill p Any Any (where_clause p now)
+          (λ keeps keeps' between q any keeps_is. keeps_behind write ok g.group_by _ _ between fill q Any Any (quiet_group_by q)
+          (λ group r any. keeps_map write ok (g.select_of x table other keeps group) (g.select_of y table other keeps' group) (g.having inner) (g.having inner) between (λ z. filled_filter z between) fill r Any (having r between)
+          (λ hav hav' rest is.
+          ap (λ r. and_then r (λ l. and_then (filled_filter keeps l.1) (λ k. then_made (g.select_of l.0 table other k.0 group) (filled_filter hav k.1)))) h
+          ∙ ap (λ r. and_then r (λ k. then_made (g.select_of y table other k.0 group) (filled_filter hav k.1))) keeps_is
+          ∙ ap (then_made (g.select_of y table other keeps' group)) is)))
+
       select : (now : Constants) → Keeps write ok (g.select inner) (g.select inner) now (λ z. filled_select z now) Other Any
       unfolding g.select
       select now =
@@ -311,8 +338,7 @@ module _ (write : Argument → Lexemes) (ok : Value → Type 0) where
           (λ columns columns' between p any columns_are. keeps_seq write ok k.From _ _ between fill p Other Any refl refl
           (keeps_behind write ok grammar.name _ _ between fill Other Ends Any (quiet_name write ok Other)
           (λ table q ends. keeps_behind write ok grammar.correlation_name _ _ between fill q Any Any (quiet_correlation_name write ok q)
-          (λ other r any. keeps_map write ok (g.select_of columns table other) (g.select_of columns' table other) (g.where_clause inner) (g.where_clause inner) between (λ z. filled_filter z between) fill r Any (where_clause r between)
-          (λ keeps keeps' rest is. ap (λ r. and_then r (λ l. then_made (g.select_of l.0 table other) (filled_filter keeps l.1))) columns_are ∙ ap (then_made (g.select_of columns' table other)) is))))))
+          (λ other r any. selected_rows columns columns' table other now between r columns_are)))))
 
       statement : (now : Constants) → Keeps write ok (g.statement inner) (g.statement inner) now (λ z. filled_statement z now) Other Any
       unfolding g.statement

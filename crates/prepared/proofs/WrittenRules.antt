@@ -65,7 +65,7 @@ module _ (write : Argument → Lexemes) (ok : Value → Type 0) where
       quiet_or write ok _ _ p Ends (quiet_pure write ok _ p Ends q)
       (quiet_seq write ok k.Dot _ p Other Ends refl refl (quiet_map write ok _ (lang.token k.Name) Other Ends (quiet_token write ok k.Name Other refl)))
 
-  quiet_column : (p : Prior) → Quiet write ok g.column p Ends
+  pub quiet_column : (p : Prior) → Quiet write ok g.column p Ends
   unfolding g.column
   quiet_column p = quiet_then write ok (lang.token k.Name) g.column_after p Ends Ends (quiet_token write ok k.Name p refl) quiet_column_after
 

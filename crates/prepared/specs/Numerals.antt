@@ -120,7 +120,7 @@ assigned_numerals (to.To x) = expression_numerals x
 abbrev pub assignment_numerals : Assignment → Numerals
 assignment_numerals set = assigned_numerals set.value
 
--- those of a WHERE, if there is one
+-- those of a WHERE or of a HAVING, if there is one
 abbrev pub filter_numerals : Option Condition → Numerals
 filter_numerals None = []
 filter_numerals (Some condition) = condition_numerals condition
@@ -134,9 +134,10 @@ abbrev pub selected_numerals : Option (List DerivedColumn) → Numerals
 selected_numerals None = []
 selected_numerals (Some columns) = numerals_of_parts (map derived_column_numerals columns)
 
--- those of a SELECT: of its columns, and of its WHERE
+-- those of a SELECT: of its columns, of its WHERE, and of its HAVING
 abbrev pub select_numerals : Select → Numerals
-select_numerals select = selected_numerals select.columns ++ filter_numerals select.keeps
+select_numerals select =
+    selected_numerals select.columns ++ (filter_numerals select.keeps ++ filter_numerals select.having)
 
 -- those of a statement, in the order in which it is written
 abbrev pub statement_numerals : Statement → Numerals

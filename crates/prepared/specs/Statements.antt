@@ -20,7 +20,7 @@ use Rattle.syntax.specs.declared.statements.Statement.TheVariants as s
 use Rattle.syntax.specs.declared.statements.Event.{Event}
 use Rattle.syntax.specs.declared.statements.Event.TheVariants as event
 use Rattle.syntax.specs.StatementGrammar.{insert_of, assignment_of, derived_column_of, select_of}
-use Rattle.prepared.specs.Constants.{Filling, then_made, same, both, all, if_there, next, constant_of, assigned_of}
+use Rattle.prepared.specs.Constants.{Filling, and_then, then_made, same, both, all, if_there, next, constant_of, assigned_of}
 use Rattle.prepared.specs.Conditions.{filled_condition, filled_expression}
 
 -- a value of an INSERT
@@ -60,7 +60,7 @@ filled_assignment set constants = then_made (assignment_of set.column) (filled_a
 abbrev pub filled_assignments : List Assignment → Filling (List Assignment)
 filled_assignments sets = all (map filled_assignment sets)
 
--- a WHERE, if there is one
+-- a WHERE or a HAVING, if there is one
 abbrev pub filled_filter : Option Condition → Filling (Option Condition)
 filled_filter keeps = if_there (option_map filled_condition keeps)
 
@@ -77,11 +77,12 @@ filled_derived_columns columns = all (map filled_derived_column columns)
 abbrev pub filled_selected : Option (List DerivedColumn) → Filling (Option (List DerivedColumn))
 filled_selected columns = if_there (option_map filled_derived_columns columns)
 
--- a SELECT with values in the places of its parameters: those of its columns, and then those of its WHERE
+-- a SELECT with values in the places of its parameters: those of its columns, of its WHERE, and of its HAVING
 abbrev pub filled_select : Select → Filling Select
 filled_select select constants =
-    both (λ columns. select_of columns select.table select.correlation_name) (filled_selected select.columns)
-    (filled_filter select.keeps) constants
+    and_then (filled_selected select.columns constants) (λ columns.
+    both (λ keeps having. select_of columns.0 select.table select.correlation_name keeps select.group_by having)
+    (filled_filter select.keeps) (filled_filter select.having) columns.1)
 
 -- a statement with values in the places of its parameters; some statements have none
 abbrev pub filled_statement : Statement → Filling Statement

@@ -87,6 +87,30 @@ pub fn copy_columns(
     }
 }
 
+/// Names of columns equal to these, in their order.
+fn copy_column_names(alloc: Global, columns: &[ColumnName]) -> Result<Items<ColumnName>, AllocError>
+    ensures { IfOk result (λ copy. copy ≡ columns.now) }
+{
+    let mut copies = Vec::with_capacity(alloc, columns.len())?;
+    for column in columns {
+        copies.push(copy_column(column)?)?;
+    }
+    Ok(Items::from_vec(copies))
+}
+
+/// The columns of a SELECT's GROUP BY, if it has one.
+pub fn copy_grouping_columns(
+    alloc: Global,
+    columns: &Option<Items<ColumnName>>,
+) -> Result<Option<Items<ColumnName>>, AllocError>
+    ensures { IfOk result (λ copy. copy ≡ columns.now) }
+{
+    match columns {
+        None => Ok(None),
+        Some(columns) => Ok(Some(copy_column_names(alloc, columns.as_slice())?)),
+    }
+}
+
 /// All, or the names.
 pub fn copy_which(alloc: Global, which: &Which) -> Result<Which, AllocError>
     ensures { IfOk result (λ copy. copy ≡ which.now) }

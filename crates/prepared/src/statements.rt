@@ -7,7 +7,9 @@ ghost use Rattle.syntax.specs.declared.statements.Statement.TheVariants as s;
 
 use crate::conditions::{fill_condition, fill_expression};
 use crate::constants::Constants;
-use crate::copies::{copy_columns, copy_name, copy_which, drop_and_fail, put_behind};
+use crate::copies::{
+    copy_columns, copy_grouping_columns, copy_name, copy_which, drop_and_fail, put_behind,
+};
 use crate::faults::FillFault;
 use sqlite_items::{Boxed, Items};
 use std::alloc::Global;
@@ -144,8 +146,8 @@ fn fill_assignments(
     Ok(Items::from_vec(made))
 }
 
-/// The condition of a statement's WHERE, if there is one.
-fn fill_where(
+/// The condition of a statement's WHERE or HAVING, if there is one.
+fn fill_filter(
     alloc: Global,
     keeps: &Option<Boxed<Condition>>,
     constants: &mut Constants,
@@ -178,7 +180,7 @@ fn fill_update(
 {
     let table = table.copy()?;
     let sets = fill_assignments(alloc, sets, constants)?;
-    match fill_where(alloc, keeps, constants) {
+    match fill_filter(alloc, keeps, constants) {
         Ok(keeps) => Ok(Statement::Update { table, sets, keeps }),
         Err(fault) => Err(drop_and_fail(fault, sets)),
     }
@@ -238,7 +240,7 @@ fn fill_selected(
     }
 }
 
-/// A SELECT of a table.
+/// A SELECT of a table: its list, WHERE and HAVING.
 fn fill_select(
     alloc: Global,
     select: &Select,
@@ -250,15 +252,22 @@ fn fill_select(
 {
     let table = select.table.copy()?;
     let correlation_name = copy_name(&select.correlation_name)?;
+    let group_by = copy_grouping_columns(alloc, &select.group_by)?;
     let columns = fill_selected(alloc, &select.columns, constants)?;
-    match fill_where(alloc, &select.keeps, constants) {
-        Ok(keeps) => Ok(Select {
+    let keeps = match fill_filter(alloc, &select.keeps, constants) {
+        Ok(keeps) => keeps,
+        Err(fault) => return Err(drop_and_fail(fault, columns)),
+    };
+    match fill_filter(alloc, &select.having, constants) {
+        Ok(having) => Ok(Select {
             columns,
             table,
             correlation_name,
             keeps,
+            group_by,
+            having,
         }),
-        Err(fault) => Err(drop_and_fail(fault, columns)),
+        Err(fault) => Err(drop_and_fail(fault, (columns, keeps))),
     }
 }
 
@@ -279,7 +288,7 @@ fn fill_statement(
         }
         Statement::Delete { table, keeps } => {
             let table = table.copy()?;
-            let keeps = fill_where(alloc, keeps, constants)?;
+            let keeps = fill_filter(alloc, keeps, constants)?;
             Ok(Statement::Delete { table, keeps })
         }
         Statement::Select(select) => Ok(Statement::Select(fill_select(alloc, select, constants)?)),

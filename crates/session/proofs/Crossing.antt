@@ -6,7 +6,9 @@ use Rattle.assertion.specs.contracts.assertions.Assertion as Assertion
 use Rattle.assertion.specs.contracts.forms.Form as Form
 use Rattle.commit.specs.contracts.cores.Core as Core
 use Rattle.assertcheck.specs.contracts.deletes.Delete as Delete
+use Rattle.form_check.specs.contracts.summaries.GroupCondition as GroupCondition
 use Rattle.form_check.specs.contracts.summaries.Summary as Summary
+use Rattle.assertcheck.specs.contracts.groupings.Grouping as Grouping
 use Rattle.assertcheck.specs.contracts.selects.Listing as Listing
 use Rattle.assertcheck.specs.contracts.selects.Select as Select
 use Rattle.assertcheck.specs.contracts.updates.Setting as Setting
@@ -140,11 +142,23 @@ Summary-send = search (Expr-send, crosses, sendable) depth 60 fits 20000
 Summary-sync : IsSync Summary.the_row
 Summary-sync = search (Expr-sync, crosses, sendable) depth 60 fits 20000
 
+GroupCondition-send : IsSend GroupCondition.the_row
+GroupCondition-send = search (Cond-send, crosses, sendable) depth 60 fits 20000
+
+GroupCondition-sync : IsSync GroupCondition.the_row
+GroupCondition-sync = search (Cond-sync, crosses, sendable) depth 60 fits 20000
+
+Grouping-send : IsSend Grouping.the_field.row
+Grouping-send = search (Summary-send, GroupCondition-send, crosses, sendable) depth 60 fits 20000
+
+Grouping-sync : IsSync Grouping.the_field.row
+Grouping-sync = search (Summary-sync, GroupCondition-sync, crosses, sendable) depth 60 fits 20000
+
 Listing-send : IsSend Listing.the_field.row
-Listing-send = search (Expr-send, Summary-send, crosses, sendable) depth 60 fits 20000
+Listing-send = search (Expr-send, Grouping-send, crosses, sendable) depth 60 fits 20000
 
 Listing-sync : IsSync Listing.the_field.row
-Listing-sync = search (Expr-sync, Summary-sync, crosses, sendable) depth 60 fits 20000
+Listing-sync = search (Expr-sync, Grouping-sync, crosses, sendable) depth 60 fits 20000
 
 Select-send : IsSend Select.the_field.row
 Select-send = search (Cond-send, Listing-send, crosses, sendable) depth 60 fits 20000

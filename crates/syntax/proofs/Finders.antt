@@ -89,7 +89,7 @@ column_after_f x = record { finds = go x }
         (subst (λ p. Accepts (p rest) y rest) (sym (quiet_dot x (kind_at rest) small)) ((finds_pure rank 9 _).finds [] rest y (refl, h.1) small))
     go x w rest y (inr h) small = pick (r.column_by x) k.Dot 9 refl (seq_f 9 k.Dot (map_f 9 _ (finds_expect rank 9 k.Name))) w rest y h small
 
-column_f : Finds rank 9 g.column r.column
+pub column_f : Finds rank 9 g.column r.column
 unfolding g.column r.column
 column_f = finds_after rank 9 k.Name g.column_after r.column_after (λ w x h. column_after_f x)
 

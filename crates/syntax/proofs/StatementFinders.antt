@@ -4,6 +4,7 @@ use Rattle.token.specs.declared.kinds.Kind.{Kind}
 use Rattle.token.specs.declared.kinds.Kind.TheVariants as k
 use Rattle.value.specs.declared.values.Value.{Value}
 use Rattle.value.specs.declared.values.Value.TheVariants as c
+use Rattle.syntax.specs.declared.trees.Condition.{Condition}
 use Rattle.syntax.specs.declared.statements.UpdateSource.{UpdateSource}
 use Rattle.syntax.specs.declared.statements.UpdateSource.TheVariants as to
 use Rattle.syntax.specs.declared.statements.DerivedColumn.{DerivedColumn}
@@ -25,10 +26,10 @@ use Rattle.syntax.specs.Reading.{Reader, by_kind, list}
 use Rattle.syntax.specs.Reading as rd
 use Rattle.syntax.proofs.WordLaws.{Finds, Accepts, finds_pure, finds_then}
 use Rattle.syntax.proofs.Loops.{finds_parens, finds_expect}
-use Rattle.syntax.proofs.Follow.{rank, Opens, opens_then, opens_token, opens_either, Follows, follows_opens, follows_map, then_f, map_f, seq_f, lower, pick, Goes, route}
+use Rattle.syntax.proofs.Follow.{rank, Opens, opens_then, opens_token, opens_either, Follows, follows_opens, follows_then, follows_map, then_f, map_f, seq_f, lower, pick, Goes, route}
 use Rattle.syntax.proofs.Parts.{optional_f, optional_follows, list_f}
 use Rattle.syntax.proofs.Whole.{Exact}
-use Rattle.syntax.proofs.Finders.{name_f, free_name, opens_kind, correlation_name_f, correlation_name_follows, cond_at_f, expr_at_f, expressions_opens}
+use Rattle.syntax.proofs.Finders.{name_f, free_name, opens_kind, column_f, correlation_name_f, correlation_name_follows, cond_at_f, expr_at_f, expressions_opens}
 use Rattle.syntax.proofs.StatementSounds.{event_s}
 
 -- a name, and something behind it
@@ -102,14 +103,29 @@ verdict_f : Finds rank 0 st.verdict r.verdict
 unfolding st.verdict r.verdict
 verdict_f = seq_f 0 k.Verdict (map_f 0 s.Verdict (name_f 0))
 
-module _ (n l : ℕ) where
-  where_f : Finds rank 0 (st.where_clause (g.nested l)) (r.where_clause n)
-  unfolding st.where_clause r.where_clause
-  where_f = optional_f 0 k.Where (omega arith) (opens_token (λ next. next ≡ k.Where) k.Where refl) (seq_f 0 k.Where (lower 0 4 (omega arith) (cond_at_f n l)))
+group_by_f : Finds rank 1 st.group_by r.group_by
+unfolding st.group_by r.group_by
+group_by_f = optional_f 1 k.Group (omega arith) (opens_token (λ next. next ≡ k.Group) k.Group refl) (seq_f 1 k.Group (seq_f 1 k.By (lower 1 3 (omega arith) (list_f (lower 4 9 (omega arith) column_f)))))
 
-  where_follows : Follows 3 0 (st.where_clause (g.nested l))
+group_by_follows : Follows 2 1 st.group_by
+unfolding st.group_by
+group_by_follows = optional_follows 2 1 k.Group (omega arith) (omega arith) (opens_token (λ next. next ≡ k.Group) k.Group refl)
+
+module _ (n l : ℕ) where
+  where_f : Finds rank 2 (st.where_clause (g.nested l)) (r.where_clause n)
+  unfolding st.where_clause r.where_clause
+  where_f = optional_f 2 k.Where (omega arith) (opens_token (λ next. next ≡ k.Where) k.Where refl) (seq_f 2 k.Where (lower 2 4 (omega arith) (cond_at_f n l)))
+
+  where_follows : Follows 3 2 (st.where_clause (g.nested l))
   unfolding st.where_clause
-  where_follows = optional_follows 3 0 k.Where (omega arith) (omega arith) (opens_token (λ next. next ≡ k.Where) k.Where refl)
+  where_follows = optional_follows 3 2 k.Where (omega arith) (omega arith) (opens_token (λ next. next ≡ k.Where) k.Where refl)
+
+  -- where nothing may come behind the WHERE
+  last_where_f : Finds rank 0 (st.where_clause (g.nested l)) (r.where_clause n)
+  last_where_f = lower 0 2 (omega arith) where_f
+
+  last_where_follows : Follows 3 0 (st.where_clause (g.nested l))
+  last_where_follows w rest keeps h small = where_follows w rest keeps h (omega arith)
 
   assigned_f : Finds rank 4 (st.assigned (g.nested l)) (r.assigned n)
   unfolding st.assigned r.assigned
@@ -128,11 +144,11 @@ module _ (n l : ℕ) where
 
   update_f : Finds rank 0 (st.update (g.nested l)) (r.update n)
   unfolding st.update r.update
-  update_f = seq_f 0 k.Update (named 0 (λ table. seq_f 0 k.Set (then_f 3 0 (list_f assignment_f) (λ w sets h. map_f 0 (s.Update table sets) where_f) (λ sets. follows_map 3 0 (s.Update table sets) where_follows))))
+  update_f = seq_f 0 k.Update (named 0 (λ table. seq_f 0 k.Set (then_f 3 0 (list_f assignment_f) (λ w sets h. map_f 0 (s.Update table sets) last_where_f) (λ sets. follows_map 3 0 (s.Update table sets) last_where_follows))))
 
   delete_f : Finds rank 0 (st.delete (g.nested l)) (r.delete n)
   unfolding st.delete r.delete
-  delete_f = seq_f 0 k.Delete (seq_f 0 k.From (named 0 (λ table. map_f 0 (s.Delete table) where_f)))
+  delete_f = seq_f 0 k.Delete (seq_f 0 k.From (named 0 (λ table. map_f 0 (s.Delete table) last_where_f)))
 
   derived_column_f : Finds rank 4 (st.derived_column (g.nested l)) (r.derived_column n)
   unfolding st.derived_column r.derived_column
@@ -156,12 +172,35 @@ module _ (n l : ℕ) where
           route (r.selected_by n) 3 (map_f 3 Some (list_f derived_column_f)) (opens_then P (opens_then P (derived_opens P
           (expressions_opens l P (record { other = (record { text = refl; name = refl; open_ = refl; count = refl; sum = refl; min = refl; max = refl }); number = refl; plus = refl; minus = refl }))))) w rest x h small
 
+  having_f : Finds rank 0 (st.having (g.nested l)) (r.having n)
+  unfolding st.having r.having
+  having_f = optional_f 0 k.Having (omega arith) (opens_token (λ next. next ≡ k.Having) k.Having refl) (seq_f 0 k.Having (lower 0 4 (omega arith) (cond_at_f n l)))
+
+  having_follows : Follows 1 0 (st.having (g.nested l))
+  unfolding st.having
+  having_follows = optional_follows 1 0 k.Having (omega arith) (omega arith) (opens_token (λ next. next ≡ k.Having) k.Having refl)
+
+  module _ (columns : Option (List DerivedColumn)) (table : List ℕ) (other : Option (List ℕ)) where
+    grouped_follows : (keeps : Option Condition) → Follows 2 0 (lang.◌>>=◌ st.group_by (λ group. lang.◌<$>◌ (st.select_of columns table other keeps group) (st.having (g.nested l))))
+    grouped_follows keeps = follows_then 2 1 0 group_by_follows (λ group. follows_map 1 0 (st.select_of columns table other keeps group) having_follows)
+
+    selected_rows_f : Finds rank 0 (st.selected_rows (g.nested l) columns table other) (r.selected_rows n columns table other)
+    unfolding st.selected_rows r.selected_rows
+    selected_rows_f =
+        then_f 2 0 where_f
+        (λ w keeps h. then_f 1 0 group_by_f (λ w group h. map_f 0 (st.select_of columns table other keeps group) having_f) (λ group. follows_map 1 0 (st.select_of columns table other keeps group) having_follows))
+        grouped_follows
+
+    selected_rows_follows : Follows 3 0 (st.selected_rows (g.nested l) columns table other)
+    unfolding st.selected_rows
+    selected_rows_follows = follows_then 3 2 0 where_follows grouped_follows
+
   select_f : Finds rank 0 (st.select (g.nested l)) (r.select n)
   unfolding st.select r.select
   select_f =
       seq_f 0 k.Select (then_f 0 0 (lower 0 3 (omega arith) selected_f) (λ w columns h. seq_f 0 k.From (named 0 (λ table.
-      then_f 3 0 (lower 3 4 (omega arith) correlation_name_f) (λ w other h. map_f 0 (st.select_of columns table other) where_f)
-      (λ other. follows_map 3 0 (st.select_of columns table other) where_follows))))
+      then_f 3 0 (lower 3 4 (omega arith) correlation_name_f) (λ w other h. selected_rows_f columns table other)
+      (λ other. selected_rows_follows columns table other))))
       (λ columns. follows_opens 0 0 (opens_token (λ kind. rank kind ≤ 0) k.From (omega arith))))
 
   select_opens : (P : Kind → Type 0) → P k.Select → Opens (st.select (g.nested l)) P

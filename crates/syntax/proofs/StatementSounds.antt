@@ -1,8 +1,9 @@
 -- Each reader of statements is sound for its part of the grammar.
-use Rattle.std.proofs.Common.{ℕ, ◌+◌, ◌<◌, true, false, Some, None, refl, inl, inr}
+use Rattle.std.proofs.Common.{ℕ, ◌+◌, ◌<◌, true, false, List, Option, Some, None, refl, inl, inr}
 use Rattle.token.specs.declared.kinds.Kind.{Kind}
 use Rattle.token.specs.declared.kinds.Kind.TheVariants as k
 use Rattle.value.specs.declared.values.Value.TheVariants as c
+use Rattle.syntax.specs.declared.statements.DerivedColumn.{DerivedColumn}
 use Rattle.syntax.specs.declared.statements.UpdateSource.TheVariants as to
 use Rattle.syntax.specs.declared.statements.Which.TheVariants as which
 use Rattle.syntax.specs.declared.statements.Mode.TheVariants as mode
@@ -18,7 +19,7 @@ use Rattle.syntax.proofs.WordLaws.{Sound, sound_pure, sound_refuse, sound_by_kin
 use Rattle.syntax.proofs.Loops.{sound_parens}
 use Rattle.syntax.proofs.Short.{then_s, map_s, tok_s, seq_s, weak}
 use Rattle.syntax.proofs.Parts.{optional_s, list_s, some_list}
-use Rattle.syntax.proofs.Sounds.{name_s, correlation_name_s, cond_at_s, expr_at_s}
+use Rattle.syntax.proofs.Sounds.{name_s, correlation_name_s, column_s, cond_at_s, expr_at_s}
 
 null_s : (n : ℕ) → Sound n n st.constant (r.constant_by k.Null)
 unfolding st.constant
@@ -90,6 +91,10 @@ access_s : (n : ℕ) → Sound n n st.access r.access
 unfolding st.access r.access
 access_s n = map_s st.begin_of (optional_s k.Read (seq_s k.Read refl (tok_s k.Only refl)))
 
+group_by_s : (n : ℕ) → Sound n n st.group_by r.group_by
+unfolding st.group_by r.group_by
+group_by_s n = optional_s k.Group (seq_s k.Group refl (seq_s k.By refl (list_s (column_s n))))
+
 module _ (n l : ℕ) (below : n + 1 < l) where
   where_s : Sound n n (st.where_clause (g.nested l)) (r.where_clause n)
   unfolding st.where_clause r.where_clause
@@ -129,11 +134,19 @@ module _ (n l : ℕ) (below : n + 1 < l) where
   selected_by_s k.Star = weak (λ w a h. inl h) (seq_s k.Star refl (sound_pure n None))
   selected_by_s _ = derived_columns
 
+  having_s : Sound n n (st.having (g.nested l)) (r.having n)
+  unfolding st.having r.having
+  having_s = optional_s k.Having (seq_s k.Having refl (cond_at_s n l below))
+
+  selected_rows_s : (columns : Option (List DerivedColumn)) (table : List ℕ) (other : Option (List ℕ)) → Sound n n (st.selected_rows (g.nested l) columns table other) (r.selected_rows n columns table other)
+  unfolding st.selected_rows r.selected_rows
+  selected_rows_s columns table other = then_s where_s (λ w keeps h. then_s (group_by_s n) (λ w group h. map_s (st.select_of columns table other keeps group) having_s))
+
   select_s : Sound n n (st.select (g.nested l)) (r.select n)
   unfolding st.select r.select r.selected
   select_s =
       seq_s k.Select refl (then_s (sound_by_kind n n (st.selected (g.nested l)) (r.selected_by n) selected_by_s) (λ w columns h.
-      seq_s k.From refl (then_s (name_s n) (λ w table h. then_s (correlation_name_s n) (λ w other h. map_s (st.select_of columns table other) where_s)))))
+      seq_s k.From refl (then_s (name_s n) (λ w table h. then_s (correlation_name_s n) (λ w other h. selected_rows_s columns table other)))))
 
   insertion_s : Sound n n (st.statement (g.nested l)) (r.statement_by n k.Insert)
   unfolding st.statement

@@ -1,6 +1,7 @@
 -- The grammar of statements and events: which texts of tokens have which trees.
 use Rattle.std.specs.Prelude.{ℕ, Bool, true, false, List, Option, Some, None}
 use Rattle.token.specs.declared.kinds.Kind.TheVariants as k
+use Rattle.syntax.specs.declared.trees.ColumnName.{ColumnName}
 use Rattle.syntax.specs.declared.trees.Condition.{Condition}
 use Rattle.syntax.specs.declared.trees.Expression.{Expression}
 use Rattle.value.specs.declared.values.Value.{Value}
@@ -20,7 +21,7 @@ use Rattle.syntax.specs.declared.statements.Statement.TheVariants as s
 use Rattle.syntax.specs.declared.statements.Event.{Event}
 use Rattle.syntax.specs.declared.statements.Event.TheVariants as event
 use Rattle.syntax.specs.declared.wants.PartInParentheses.{PartInParentheses}
-use Rattle.syntax.specs.Grammar.{digits_value, signed_number, text_in_quotes, name, correlation_name, inner_cond, inner_expr, nested}
+use Rattle.syntax.specs.Grammar.{digits_value, signed_number, text_in_quotes, name, correlation_name, column, inner_cond, inner_expr, nested}
 use Rattle.syntax.specs.Language.{Lexeme, Language, ◌>>=◌, ◌>>◌, ◌<$>◌, ◌∪◌, pure, token, optional, list, parens, Some_level}
 
 -- the constant of a number's token, with its sign
@@ -81,9 +82,20 @@ abbrev pub derived_column_of : Expression → Option (List ℕ) → DerivedColum
 derived_column_of value name = record { value = value; name = name }
 
 -- the tree of a select statement
-abbrev pub select_of : Option (List DerivedColumn) → List ℕ → Option (List ℕ) → Option Condition → Select
-select_of columns table correlation_name keeps =
-    record { columns = columns; table = table; correlation_name = correlation_name; keeps = keeps }
+abbrev pub select_of : Option (List DerivedColumn) → List ℕ → Option (List ℕ) → Option Condition
+    → Option (List ColumnName) → Option Condition → Select
+select_of columns table correlation_name keeps group_by having = record {
+  columns = columns;
+  table = table;
+  correlation_name = correlation_name;
+  keeps = keeps;
+  group_by = group_by;
+  having = having;
+}
+
+-- [GROUP BY colref { "," colref }]
+unfoldable pub group_by : Language (Option (List ColumnName))
+group_by = optional (token k.Group >> (token k.By >> list column))
 
 -- [READ ONLY], behind BEGIN
 abbrev pub begin_of : Option Lexeme → Event
@@ -125,11 +137,20 @@ module _ (inner : Language PartInParentheses) where
   unfoldable pub selected : Language (Option (List DerivedColumn))
   selected = (token k.Star >> pure None) ∪ (Some <$> list derived_column)
 
-  -- SELECT ( "*" | item { "," item } ) FROM name [ [AS] name ] [WHERE cond]
+  -- [HAVING cond]
+  unfoldable pub having : Language (Option Condition)
+  having = optional (token k.Having >> inner_cond inner)
+
+  -- what a SELECT's rows are: [WHERE cond] [GROUP BY colref { "," colref }] [HAVING cond]
+  unfoldable pub selected_rows : Option (List DerivedColumn) → List ℕ → Option (List ℕ) → Language Select
+  selected_rows columns table other =
+      where_clause >>= (λ keeps. group_by >>= (λ group. select_of columns table other keeps group <$> having))
+
+  -- SELECT ( "*" | item { "," item } ) FROM name [ [AS] name ] and what its rows are
   unfoldable pub select : Language Select
   select =
       token k.Select >> (selected >>= (λ columns. token k.From >> (name >>= (λ table.
-      correlation_name >>= (λ other. select_of columns table other <$> where_clause)))))
+      correlation_name >>= (λ other. selected_rows columns table other)))))
 
   -- stmt: what a transaction may run
   unfoldable pub statement : Language Statement

@@ -2,6 +2,7 @@
 use Rattle.std.specs.Prelude.{ℕ, true, false, List, Option, Some, None}
 use Rattle.token.specs.declared.kinds.Kind.{Kind}
 use Rattle.token.specs.declared.kinds.Kind.TheVariants as k
+use Rattle.syntax.specs.declared.trees.ColumnName.{ColumnName}
 use Rattle.syntax.specs.declared.trees.Condition.{Condition}
 use Rattle.value.specs.declared.values.Value.{Value}
 use Rattle.value.specs.declared.values.Value.TheVariants as c
@@ -19,7 +20,7 @@ use Rattle.syntax.specs.declared.statements.Statement.{Statement}
 use Rattle.syntax.specs.declared.statements.Statement.TheVariants as s
 use Rattle.syntax.specs.declared.statements.Event.{Event}
 use Rattle.syntax.specs.declared.statements.Event.TheVariants as event
-use Rattle.syntax.specs.Readers.{name, correlation_name, cond_at, expr_at}
+use Rattle.syntax.specs.Readers.{name, correlation_name, column, cond_at, expr_at}
 use Rattle.syntax.specs.StatementGrammar.{number_of, text_of, insert_of, assignment_of, derived_column_of, select_of, begin_of}
 use Rattle.syntax.specs.Reading.{Reader, ◌>>=◌, ◌>>◌, ◌<$>◌, pure, refuse, by_kind, expect, optional, list, parens}
 
@@ -67,6 +68,10 @@ verdict = expect k.Verdict >> (s.Verdict <$> name)
 -- [READ ONLY], behind BEGIN
 unfoldable pub access : Reader Event
 access = begin_of <$> optional k.Read (expect k.Read >> expect k.Only)
+
+-- reads [GROUP BY colref { "," colref }], the group by clause (7.7)
+unfoldable pub group_by : Reader (Option (List ColumnName))
+group_by = optional k.Group (expect k.Group >> (expect k.By >> list column))
 
 -- how many parentheses may be opened
 module _ (n : ℕ) where
@@ -124,11 +129,20 @@ module _ (n : ℕ) where
   unfoldable pub selected : Reader (Option (List DerivedColumn))
   selected = by_kind selected_by
 
+  -- reads [HAVING cond], the having clause (7.8)
+  unfoldable pub having : Reader (Option Condition)
+  having = optional k.Having (expect k.Having >> cond_at n)
+
+  -- reads [WHERE cond] [GROUP BY colref { "," colref }] [HAVING cond]
+  unfoldable pub selected_rows : Option (List DerivedColumn) → List ℕ → Option (List ℕ) → Reader Select
+  selected_rows columns table other =
+      where_clause >>= (λ keeps. group_by >>= (λ group. select_of columns table other keeps group <$> having))
+
   -- reads a select statement
   unfoldable pub select : Reader Select
   select =
       expect k.Select >> (selected >>= (λ columns. expect k.From >> (name >>= (λ table.
-      correlation_name >>= (λ other. select_of columns table other <$> where_clause)))))
+      correlation_name >>= (λ other. selected_rows columns table other)))))
 
   -- a statement, by the kind of the next token
   abbrev pub statement_by : Kind → Reader Statement

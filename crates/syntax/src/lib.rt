@@ -95,6 +95,7 @@
 //! event  = BEGIN [READ ONLY] | COMMIT [WORK] | ROLLBACK [WORK] | stmt
 //! stmt   = insert | UPDATE name SET set { "," set } [WHERE cond] | DELETE FROM name [WHERE cond]
 //!        | SELECT ( "*" | item { "," item } ) FROM name [ [AS] name ] [WHERE cond]
+//!          [GROUP BY colref { "," colref }] [HAVING cond]
 //!        | SET CONSTRAINTS ( ALL | name { "," name } ) ( DEFERRED | IMMEDIATE ) | VERDICT name
 //! insert = INSERT INTO name [ "(" name { "," name } ")" ] VALUES row { "," row }
 //! item   = expr [ [AS] name ]                              row = "(" const { "," const } ")"

@@ -1,6 +1,6 @@
 //! The trees of statements and events.
 
-use crate::trees::{Condition, Expression};
+use crate::trees::{ColumnName, Condition, Expression};
 use sqlite_items::{Boxed, Items};
 use value::{Text, Value};
 
@@ -40,6 +40,9 @@ pub struct Select {
     pub table: Text,
     pub correlation_name: Option<Text>,
     pub keeps: Option<Boxed<Condition>>,
+    /// The columns of GROUP BY.
+    pub group_by: Option<Items<ColumnName>>,
+    pub having: Option<Boxed<Condition>>,
 }
 
 /// All assertions, or those with these names.

@@ -10,6 +10,7 @@ use Rattle.alone.proofs.answers.Answer.TheSendSync as Answer
 use Rattle.syntax.proofs.trees.Condition.TheLaws.TheKnot as conditions
 use Rattle.syntax.specs.contracts.trees.Condition as Condition
 use Rattle.syntax.specs.contracts.trees.Expression as Expression
+use Rattle.syntax.specs.contracts.trees.ColumnName as ColumnName
 use Rattle.syntax.specs.contracts.statements.Assignment as Assignment
 use Rattle.syntax.specs.contracts.statements.DerivedColumn as DerivedColumn
 use Rattle.syntax.specs.contracts.statements.ScriptLine as ScriptLine
@@ -32,8 +33,12 @@ Assignment-sync = search (Expression-sync, crosses, sendable) depth 60 fits 2000
 DerivedColumn-sync : IsSync DerivedColumn.the_row
 DerivedColumn-sync = search (Expression-sync, Text.the_sync, crosses, sendable) depth 60 fits 20000
 
+ColumnName-sync : IsSync ColumnName.the_row
+ColumnName-sync = search (Text.the_sync, crosses, sendable) depth 60 fits 20000
+
 Select-sync : IsSync Select.the_field.row
-Select-sync = search (Condition-sync, DerivedColumn-sync, Text.the_sync, crosses, sendable) depth 60 fits 20000
+Select-sync =
+    search (Condition-sync, DerivedColumn-sync, ColumnName-sync, Text.the_sync, crosses, sendable) depth 60 fits 20000
 
 ScriptLine-sync : IsSync ScriptLine.the_row
 ScriptLine-sync = search (Condition-sync, Assignment-sync, Select-sync, Text.the_sync, crosses, sendable) depth 60 fits 20000

@@ -52,6 +52,14 @@ impl Part for Aggregate {
     }
 }
 
+impl Part for usize {
+    fn copy_in(&self, _alloc: Global) -> Result<usize, AllocError>
+        ensures { IfOk result (λ copy. copy ≡ self.now) }
+    {
+        Ok(*self)
+    }
+}
+
 impl Part for Text {
     fn copy_in(&self, _alloc: Global) -> Result<Text, AllocError>
         ensures { IfOk result (λ copy. copy ≡ self.now) }

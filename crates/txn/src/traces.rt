@@ -4,8 +4,8 @@ ghost use Rattle.std.specs.Prelude.{◌≡◌, IfOk};
 
 use crate::copies::{Part, copy_all, copy_if};
 use alone::ResolvedStatement;
-use assertcheck::{Delete, Listing, NewRows, Select, Setting, Update};
-use form_check::Summary;
+use assertcheck::{Delete, Grouping, Listing, NewRows, Select, Setting, Update};
+use form_check::{GroupCondition, Summary};
 use sqlite_items::Items;
 use std::alloc::{AllocError, Global};
 
@@ -80,10 +80,20 @@ fn copy_listing(alloc: Global, listing: &Listing) -> Result<Listing, AllocError>
 {
     match listing {
         Listing::EachRow(values) => Ok(Listing::EachRow(copy_all(alloc, values.as_slice())?)),
-        Listing::AllRows(summaries) => {
-            Ok(Listing::AllRows(copy_all(alloc, summaries.as_slice())?))
-        }
+        Listing::EachGroup(grouping) => Ok(Listing::EachGroup(copy_grouping(alloc, grouping)?)),
     }
+}
+
+fn copy_grouping(alloc: Global, grouping: &Grouping) -> Result<Grouping, AllocError>
+    ensures { IfOk result (λ copy. copy ≡ grouping.now) }
+{
+    let columns = copy_all(alloc, grouping.columns.as_slice())?;
+    let having = copy_if(alloc, &grouping.having)?;
+    Ok(Grouping {
+        columns,
+        having,
+        values: copy_all(alloc, grouping.values.as_slice())?,
+    })
 }
 
 impl Part for Summary {
@@ -94,6 +104,18 @@ impl Part for Summary {
         Ok(Summary {
             aggregates,
             value: self.value.copy(alloc)?,
+        })
+    }
+}
+
+impl Part for GroupCondition {
+    fn copy_in(&self, alloc: Global) -> Result<GroupCondition, AllocError>
+        ensures { IfOk result (λ copy. copy ≡ self.now) }
+    {
+        let aggregates = copy_all(alloc, self.aggregates.as_slice())?;
+        Ok(GroupCondition {
+            aggregates,
+            condition: self.condition.copy(alloc)?,
         })
     }
 }

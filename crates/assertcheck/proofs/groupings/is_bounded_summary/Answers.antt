@@ -3,7 +3,7 @@ use Rattle.std.specs.Prelude.{is_ok, is_some}
 use Rattle.table.specs.Bounds.{bound_of}
 use Rattle.table.specs.Kinds.{kind_of_aggregate}
 use Rattle.assertcheck.proofs.SelectedNames.{bound_is_some}
-use Rattle.assertcheck.proofs.listings.is_bounded_summary.Goals as goal
+use Rattle.assertcheck.proofs.groupings.is_bounded_summary.Goals as goal
 
 pub returns : goal.returns
 returns c =

@@ -1,7 +1,7 @@
 use Rattle.std.proofs.Common.{◌≡◌, drop}
 use Rattle.std.specs.List.{list_all}
-use Rattle.assertcheck.specs.Selects.{is_typed_summary}
-use Rattle.assertcheck.proofs.listings.are_typed_summaries.Given as goal
+use Rattle.assertcheck.specs.Groupings.{is_typed_summary}
+use Rattle.assertcheck.proofs.groupings.are_typed_summaries.Given as goal
 
 -- all are typed where those that are left are
 abbrev pub invariant-loop-summary : goal.invariant-loop-summary
