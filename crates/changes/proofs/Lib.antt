@@ -10,3 +10,4 @@ mod Sorting
 mod Runs
 mod KeyedRows
 mod GroupWalks
+mod LeastValues

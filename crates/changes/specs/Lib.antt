@@ -4,3 +4,4 @@ pub mod Filters
 pub mod Insertions
 pub mod Lookups
 pub mod Keyed
+pub mod Extremes

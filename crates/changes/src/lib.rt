@@ -10,9 +10,9 @@
 //! - A DELETE takes out the rows of which its condition is true ([`removals`]).
 //! - An UPDATE gives such rows other values. Each is evaluated on the row as it was, and the first fault, by rows in
 //!   key order and then by assignments as they are written, refuses the whole ([`renewals`]).
-//! - A SELECT changes nothing. It lists values of each of such rows, or of each group of them that its HAVING keeps: the
-//!   rows are sorted by the columns of GROUP BY, and a group is a run that is alike in them (ISO/IEC 9075:1992, 7.7 to
-//!   7.9; [`listed_rows`]).
+//! - A SELECT changes nothing. It lists values of each of such rows, or of each group of them that its HAVING keeps:
+//!   the rows are sorted by the columns of GROUP BY, and a group is a run that is alike in them (ISO/IEC 9075:1992, 7.7
+//!   to 7.9; [`listed_rows`]).
 //!
 //! Where a WHERE has `key = literal` among the parts that AND joins at its top, that one row is looked up; where it has
 //! `column = literal` and the column has an index, the rows with that value are; and else all rows are tested: one
@@ -27,8 +27,8 @@
 //! stands under its key, and each new row fits the columns; so they may be put in one after the other. The rows
 //! themselves aren't changed.
 //!
-//! The definitions are those of `alone`; `specs/Insertions` has INSERT as a whole on what a view shows, and `specs/Keyed`
-//! how rows compare that stand beside their values.
+//! The definitions are those of `alone`; `specs/Insertions` has INSERT as a whole on what a view shows, and
+//! `specs/Keyed` how rows compare that stand beside their values.
 //!
 //! # Reads
 //!
@@ -66,6 +66,7 @@
 
 mod checks;
 mod deletions;
+mod extremes;
 mod filtered;
 mod filters;
 mod groupings;

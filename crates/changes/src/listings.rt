@@ -17,6 +17,7 @@ ghost use Rattle.alone.specs.Results.{value_of as result_value};
 ghost use Rattle.alone.specs.Statements.{first_row, is_kept, listed_rows, summary_value};
 ghost use Rattle.assertcheck.specs.declared.selects.Listing.TheVariants as listings;
 
+use crate::extremes::extreme;
 use crate::filtered::filtered_rows;
 use crate::filters::TableFilter;
 use crate::groupings::groups_of;
@@ -29,8 +30,8 @@ use std::alloc::{AllocError, Global};
 use table::{Aggregate, Expr, Row, SlotValue, Slots, evaluate, keeps, value_at};
 use value::Value;
 
-/// What a SELECT lists of the rows that its WHERE keeps: of each row, in key order, or of each group that its HAVING keeps,
-/// in the order of their values. `rows` are those that stand in the WHERE's table now.
+/// What a SELECT lists of the rows that its WHERE keeps: of each row, in key order, or of each group that its HAVING
+/// keeps, in the order of their values. `rows` are those that stand in the WHERE's table now.
 pub fn listed_rows(
     alloc: Global,
     rows: &Rows,
@@ -231,6 +232,26 @@ fn set_functions(
 
 /// What a set function gives of some rows.
 fn set_function(alloc: Global, aggregate: Aggregate, rows: &[&Row]) -> Result<SlotValue, AllocError>
+    requires small { All IsSmallRow (map (λ row. row.now) rows.now) }
+    requires short { length (map (λ row. row.now) rows.now) < 2 ^ 63 }
+    ensures value { IfOk result (λ made. value_of made ≡ aggregate_of aggregate (map (λ row. row.now) rows.now)) }
+    ensures kind { IfOk result (λ made. kind_of made ≡ kind_of_aggregate aggregate) }
+    ensures within { IfOk result (λ made. IsWithinKind made) }
+{
+    match aggregate {
+        // (these need no total: that of the rules keeps how often each value stands, for rows that go)
+        Aggregate::CountRows => Ok(SlotValue::Count(rows.len() as u64)),
+        Aggregate::Min(column) => Ok(SlotValue::Extreme(extreme(rows, column, false)?)),
+        Aggregate::Max(column) => Ok(SlotValue::Extreme(extreme(rows, column, true)?)),
+        Aggregate::Count(_)
+        | Aggregate::CountDistinct(_)
+        | Aggregate::Sum(_)
+        | Aggregate::SumDistinct(_) => by_total(alloc, aggregate, rows),
+    }
+}
+
+/// What a set function gives by the total of some rows.
+fn by_total(alloc: Global, aggregate: Aggregate, rows: &[&Row]) -> Result<SlotValue, AllocError>
     requires small { All IsSmallRow (map (λ row. row.now) rows.now) }
     requires short { length (map (λ row. row.now) rows.now) < 2 ^ 63 }
     ensures value { IfOk result (λ made. value_of made ≡ aggregate_of aggregate (map (λ row. row.now) rows.now)) }
