@@ -13,8 +13,8 @@ pub enum Reply {
     Updated(u64),
     /// DELETE: so many rows were taken out.
     Deleted(u64),
-    /// SELECT: what it lists of each row that its condition kept, in key order; or, with set functions, one row of all
-    /// of them together.
+    /// SELECT: what it lists of each row that its WHERE kept, in key order; or of each group of them that its HAVING
+    /// kept, in the order of their values. Set functions without GROUP BY are of one group of all rows.
     Rows(Items<ResultRow>),
     /// SET CONSTRAINTS: the modes were set.
     ModesSet,

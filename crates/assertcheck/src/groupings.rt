@@ -31,7 +31,8 @@ pub struct Grouping {
     pub values: Items<Summary>,
 }
 
-/// Whether a SELECT is of groups. It takes no memory.
+/// Whether a SELECT is of groups: with GROUP BY, with HAVING, or where a set function stands in what it lists (ISO/IEC
+/// 9075:1992, 7.9). It takes no memory.
 pub fn is_grouped(select: &syntax::Select) -> bool
     ensures { result ≡ is_grouped select.now }
 {

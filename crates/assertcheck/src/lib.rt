@@ -77,7 +77,7 @@ pub use assertions::check;
 pub use bounded_forms::form_is_bounded;
 pub use data_types::{DataType, aggregate_type, are_comparable, column_type};
 pub use deletes::{Delete, check_delete};
-pub use groupings::Grouping;
+pub use groupings::{Grouping, is_grouped};
 pub use inserts::{NewRows, check_insert};
 pub use selects::{Listing, Select, check_select};
 pub use typed_forms::form_is_typed;

@@ -2,16 +2,14 @@
 
 ghost use Rattle.std.specs.Prelude.{◌≡◌, ◌<◌, All, IfOk, Some, length, map};
 ghost use Rattle.std.proofs.Common.{refl};
-ghost use Rattle.std.specs.Ordering.{is_eq};
-ghost use Rattle.std.specs.Cmp.Lexicographic.{slice_cmp};
-ghost use Rattle.value.specs.ValueOrder.{value_cmp};
-ghost use Rattle.value.proofs.ValueOrders.{value_cmp_total};
-ghost use Rattle.table.specs.Rows.{value_in};
-ghost use Rattle.alone.specs.Groups.{groups_of, in_order, runs};
-ghost use Rattle.changes.specs.Keyed.{IsKeyed, compare_keyed, row_of, run_length, values_of};
 ghost use Rattle.std.specs.Cmp as Cmp;
 ghost use Rattle.std.specs.Cmp.{eq_by_cmp_equiv, on_total, partial_order_from_total};
 ghost use Rattle.std.specs.Cmp.Lexicographic.{lists_total};
+ghost use Rattle.std.specs.Ordering.{is_eq};
+ghost use Rattle.value.proofs.ValueOrders.{value_cmp_total};
+ghost use Rattle.table.specs.Rows.{value_in};
+ghost use Rattle.alone.specs.Groups.{groups_of, runs};
+ghost use Rattle.changes.specs.Keyed.{IsKeyed, compare_keyed, row_of, run_length, values_of};
 
 use std::alloc::{AllocError, Global};
 use std::cmp::Ordering;

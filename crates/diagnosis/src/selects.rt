@@ -10,8 +10,9 @@ use crate::rows::{Rows, diagnose_rows};
 use crate::rules::Rule;
 use crate::shapes::{Groups, in_listed};
 use crate::types::of_type;
+use assertcheck::is_grouped;
 use faults::Diagnosis;
-use form_check::{Scope, exposed_name, has_set_function};
+use form_check::{Scope, exposed_name};
 use std::alloc::{AllocError, Global};
 use std::slice;
 use syntax::{ColumnName, DerivedColumn, Expression, Select};
@@ -35,15 +36,6 @@ fn grouping_columns(select: &Select) -> &[ColumnName] {
         Some(names) => names.as_slice(),
         None => &[],
     }
-}
-
-/// Whether the rows of a SELECT are taken in groups.
-fn is_grouped(select: &Select) -> bool {
-    select.group_by.is_some()
-        || select.having.is_some()
-        || derived_columns(select)
-            .iter()
-            .any(|column| has_set_function(&column.value))
 }
 
 /// An expression, and the name behind it.
@@ -117,8 +109,8 @@ impl<'a> KnownSelect<'a> {
     }
 }
 
-/// Says what is wrong with a SELECT, if that is found: with its table, or else with its list, its WHERE, its GROUP BY or
-/// its HAVING, the first of them.
+/// Says what is wrong with a SELECT, if that is found: with its table, or else with its list, its WHERE, its GROUP BY
+/// or its HAVING, the first of them.
 pub fn diagnose_select(
     alloc: Global,
     context: Context,
@@ -181,11 +173,12 @@ fn diagnose_columns(
     columns: &[DerivedColumn],
     diagnosis: &mut Diagnosis,
 ) -> Result<bool, AllocError> {
+    let groups = known.groups();
     let mut at = LIST_AT;
     for column in columns {
         let listed = Listed {
             scope: known.scope,
-            groups: known.groups(),
+            groups,
             expression: &column.value,
             at,
         };
